@@ -1,0 +1,11 @@
+pub mod Words
+pub mod Outcome
+pub mod Root
+pub mod Layout
+pub mod Area
+pub mod Master
+pub mod Detail
+pub mod Cursor
+pub mod Calls
+pub mod Follow
+pub mod Sample
