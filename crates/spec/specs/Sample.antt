@@ -31,7 +31,7 @@ sample-root-at cap =
 abbrev pub sample-root : List ℕ
 sample-root = sample-root-at 5
 
--- sets by name, and the path by its search item
+-- sets by name, and the paths of set 3 by their search items
 abbrev accounts : ℕ
 accounts = 1
 
@@ -43,6 +43,9 @@ lines = 3
 
 abbrev by-account : ℕ
 by-account = 1
+
+abbrev by-date : ℕ
+by-date = 2
 
 -- A row asks one thing of the base as the rows above left it, and says what is answered.
 pub data Ask : Type 0 where
@@ -164,7 +167,8 @@ table =
     -- P9 "Delete account 2: 44."
     ∷ (a-get accounts 7 0 (2 ∷ []) gives 0 ∷ 2 ∷ [])
     ∷ (a-delete accounts gives 44 ∷ 0 ∷ [])
-    -- P10 "Delete line 1, then 3: forward 2; date 10 now at record 5, record 1 of set 2 unused."
+    -- P10 "Delete line 1, then 3: forward 2; date 10 now at record 5, record 1 of set 2 unused." Its head came with it: the chain
+    -- of date 10 is still line 2.
     ∷ (a-get lines 4 1 [] gives 0 ∷ 1 ∷ [])
     ∷ (a-delete lines gives 0 ∷ 0 ∷ [])
     ∷ (a-get lines 4 3 [] gives 0 ∷ 3 ∷ [])
@@ -174,6 +178,8 @@ table =
     ∷ (a-get lines 5 0 [] gives 15 ∷ 0 ∷ [])
     ∷ (a-get dates 7 0 (10 ∷ []) gives 0 ∷ 5 ∷ [])
     ∷ (is-live dates 1 gives 0 ∷ [])
+    ∷ (a-find lines by-date (10 ∷ []) gives 0 ∷ 0 ∷ [])
+    ∷ (a-get lines 5 0 [] gives 0 ∷ 2 ∷ [])
     -- P11 "The next line takes record 3, the next record 1."
     ∷ (a-put lines (line 2 30) gives 0 ∷ 3 ∷ 0 ∷ 0 ∷ 0 ∷ 0 ∷ [])
     ∷ (a-put lines (line 2 5) gives 0 ∷ 1 ∷ 2 ∷ 0 ∷ 0 ∷ 0 ∷ [])
