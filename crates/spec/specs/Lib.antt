@@ -7,5 +7,6 @@ pub mod Master
 pub mod Detail
 pub mod Cursor
 pub mod Calls
+pub mod Numbers
 pub mod Follow
 pub mod Sample
