@@ -78,6 +78,10 @@ mend s a r i n = elim (eqb r 0) [ true ↦ a | false ↦ poke-link s a r i n ]
 unfoldable pub blank : Shape → Area → ℕ → ℕ → ℕ → Area
 blank s a r i n = poke-part s a r i (replicate n 0)
 
+-- n words of record f, from place i in it on, in record r: "copied unread"
+unfoldable pub copy-part : Shape → Area → ℕ → ℕ → ℕ → ℕ → Area
+copy-part s a f r i n = poke-part s a r i (peek-part s a f i n)
+
 -- The entry in record r, and an item of it; an item of an entry in hand.
 
 unfoldable pub entry-at : Shape → Area → ℕ → List ℕ
@@ -188,5 +192,5 @@ set-synonyms s a r y = poke-link s (poke-link s (poke s a r 0 (y .count)) r syno
 
 -- To compute with this file's definitions: `unfolding open-area` opens them all.
 unfoldable pub open-area : Unit {0}
-unfolding map-place map-bit bit-of with-bit without-bit live go-live go-unused place peek peek-link peek-part poke poke-link poke-part mend blank entry-at value-at put-entry-at mark freed set-mark set-freed next-freed set-next-freed read read-synonym follow read-head set-head-count set-last set-first peek-links read-links mend-back mend-fore synonym-count synonyms set-synonym-count mend-synonym-back mend-synonym-fore set-synonyms
+unfolding map-place map-bit bit-of with-bit without-bit live go-live go-unused place peek peek-link peek-part poke poke-link poke-part mend blank copy-part entry-at value-at put-entry-at mark freed set-mark set-freed next-freed set-next-freed read read-synonym follow read-head set-head-count set-last set-first peek-links read-links mend-back mend-fore synonym-count synonyms set-synonym-count mend-synonym-back mend-synonym-fore set-synonyms
 open-area = tt

@@ -10,11 +10,12 @@ use Rattle.spec.specs.declared.Refusal.{Refusal}
 use Rattle.spec.specs.declared.Refusal.the-variants.{Broken}
 use Rattle.spec.specs.declared.Shape.{Shape}
 use Rattle.spec.specs.declared.Head.{Head}
+use Rattle.spec.specs.declared.Lowered.{Lowered}
 use Rattle.spec.specs.declared.Master.{Master}
 use Rattle.spec.specs.Outcome.{Outcome, accept, refuse, require, _>>=_}
 use Rattle.spec.specs.Words.{same}
 use Rattle.spec.specs.Layout.{head-words, synonym-words}
-use Rattle.spec.specs.Area.{Area, live, go-live, go-unused, peek-part, poke-part, blank, value, value-at, put-entry-at, check, follow, read-head, synonyms, set-synonym-count, mend-synonym-back, mend-synonym-fore, set-synonyms}
+use Rattle.spec.specs.Area.{Area, live, go-live, go-unused, copy-part, blank, value, value-at, put-entry-at, check, follow, read-head, synonyms, set-synonym-count, mend-synonym-back, mend-synonym-fore, set-synonyms}
 
 -- The primary address.
 
@@ -105,21 +106,24 @@ enter m a r y entry =
 abbrev pub lone : Head
 lone = record { count = 1; back = 0; fore = 0 }
 
--- "Held by a primary, take the first unused record and join the chain's end (behind last; behind h if that is 0)": the chain
--- of h, whose synonym words are y, gets f. Written: behind, primary, own record.
+-- The chain of the primary h, of so many entries, gets f behind its end. Written: behind, primary.
+unfoldable pub lengthen : Shape → Area → ℕ → ℕ → ℕ → ℕ → Area
+lengthen s a h count behind f = mend-synonym-back s (set-synonym-count s (mend-synonym-fore s a behind f) h (count + 1)) h f
+
+-- "Held by a primary, take the first unused record and join the chain's end (behind last; behind h if that is 0)": y are the
+-- synonym words of h, f is the record taken
 unfoldable pub join : Master → Area → ℕ → Head → ℕ → List ℕ → Outcome Put
 join m a h y f entry =
     let behind : ℕ = cond (eqb (y .back) 0) h (y .back) in do
       _ ← follow (m .shape) a behind
-      let linked = mend-synonym-fore (m .shape) a behind f
-      let raised = mend-synonym-back (m .shape) (set-synonym-count (m .shape) linked h (y .count + 1)) h f
-      accept (record { at = f; area = enter m raised f (record { count = 0; back = behind; fore = 0 }) entry })
+      let longer = lengthen (m .shape) a h (y .count) behind f
+      accept (record { at = f; area = enter m longer f (record { count = 0; back = behind; fore = 0 }) entry })
 
 -- "Held by a secondary, move that one, heads included, to such a record, mend its links, and take h."
 
 -- the whole of record h in record f; "heads and entry are copied unread"
 unfoldable pub carry : Master → Area → ℕ → ℕ → Area
-carry m a h f = go-live (m .shape) (poke-part (m .shape) a f 0 (peek-part (m .shape) a h 0 (m .shape .width))) f
+carry m a h f = go-live (m .shape) (copy-part (m .shape) a h f 0 (m .shape .width)) f
 
 -- "and, if its last changes, primary": found from the key, its five words read whole
 unfoldable pub last-primary : Master → Area → ℕ → Outcome ℕ
@@ -132,13 +136,17 @@ last-primary m a h = do
 unfoldable pub named-by : Master → Area → ℕ → Head → Outcome ℕ
 named-by m a h y = elim (eqb (y .fore) 0) [ true ↦ last-primary m a h | false ↦ accept (y .fore) ]
 
+-- What the move of record h to f writes: the one behind, the one k that names it back, the new record.
+unfoldable pub relink : Master → Area → ℕ → ℕ → ℕ → ℕ → Area
+relink m a h behind k f = carry m (mend-synonym-back (m .shape) (mend-synonym-fore (m .shape) a behind f) k f) h f
+
 -- "A put's move reads the moved one's synonym words [y], behind, ahead and, if its last changes, primary"
 unfoldable pub move-away : Master → Area → ℕ → Head → ℕ → Outcome Area
 move-away m a h y f = do
   _ ← follow (m .shape) a (y .back)
   _ ← follow (m .shape) a (y .fore)
   k ← named-by m a h y
-  accept (carry m (mend-synonym-back (m .shape) (mend-synonym-fore (m .shape) a (y .back) f) k f) h f)
+  accept (relink m a h (y .back) k f)
 
 unfoldable pub displace : Master → Area → ℕ → Head → ℕ → List ℕ → Outcome Put
 displace m a h y f entry = do
@@ -191,15 +199,29 @@ new-last m a p y =
       | false ↦ a
     ]
 
+-- behind and ahead of the one that goes, joined
+unfoldable pub close-up : Shape → Area → Head → Area
+close-up s a y = mend-synonym-back s (mend-synonym-fore s a (y .back) (y .fore)) (y .fore) (y .back)
+
+-- What goes with the secondary r is written: behind, ahead, its primary q, own record.
+unfoldable pub cut : Master → Area → ℕ → Head → Lowered → Area
+cut m a r y q =
+    erase m (new-last m (set-synonym-count (m .shape) (close-up (m .shape) a y) (q .at) (q .count)) (q .at) y) r
+
+-- the primary of the secondary r, found from its key and read whole; "or must lower 0"
+unfoldable pub lowered : Master → Area → ℕ → Outcome Lowered
+lowered m a r = do
+  p ← primary-of m a r
+  z ← synonyms (m .shape) a p
+  _ ← check (ltb 0 (z .count))
+  accept (record { at = p; count = z .count - 1 })
+
 unfoldable pub unlink : Master → Area → ℕ → Head → Outcome Area
 unlink m a r y = do
   _ ← follow (m .shape) a (y .back)
   _ ← follow (m .shape) a (y .fore)
-  p ← primary-of m a r
-  z ← synonyms (m .shape) a p
-  _ ← check (ltb 0 (z .count))
-  let joined = mend-synonym-back (m .shape) (mend-synonym-fore (m .shape) a (y .back) (y .fore)) (y .fore) (y .back)
-  accept (erase m (new-last m (set-synonym-count (m .shape) joined p (z .count - 1)) p y) r)
+  q ← lowered m a r
+  accept (cut m a r y q)
 
 -- "a primary whose first isn't 0 is replaced by that one, moved to its address: count less 1, last (0 if it was the one
 -- moved), first its next". "a delete's move [reads] the moved one's synonym words, then ahead; heads and entry are copied
@@ -207,16 +229,20 @@ unlink m a r y = do
 unfoldable pub promoted : Head → ℕ → Head
 promoted y next = record { count = y .count - 1; back = cond (eqb (y .back) (y .fore)) 0 (y .back); fore = next }
 
-unfoldable pub succeed : Master → Area → ℕ → Head → Outcome Area
-succeed m a r y =
+-- What the promotion of the first secondary to record r writes: ahead, record r, the record it leaves.
+unfoldable pub promote : Master → Area → ℕ → Head → ℕ → Area
+promote m a r y next =
     let s : Shape = m .shape in
-    let f : ℕ = y .fore in do
-      _ ← follow s a f
-      z ← synonyms s a f
-      _ ← follow s a (z .fore)
-      let mended = mend-synonym-back s a (z .fore) r
-      let carried = poke-part s mended r synonym-words (peek-part s a f synonym-words (s .width - synonym-words))
-      accept (erase m (set-synonyms s carried r (promoted y (z .fore))) f)
+    let mended : Area = mend-synonym-back s a next r in
+    let carried : Area = copy-part s mended (y .fore) r synonym-words (s .width - synonym-words) in
+    erase m (set-synonyms s carried r (promoted y next)) (y .fore)
+
+unfoldable pub succeed : Master → Area → ℕ → Head → Outcome Area
+succeed m a r y = do
+  _ ← follow (m .shape) a (y .fore)
+  z ← synonyms (m .shape) a (y .fore)
+  _ ← follow (m .shape) a (z .fore)
+  accept (promote m a r y (z .fore))
 
 unfoldable pub remove-primary : Master → Area → ℕ → Head → Outcome Area
 remove-primary m a r y = elim (eqb (y .fore) 0) [ true ↦ accept (erase m a r) | false ↦ succeed m a r y ]
@@ -229,5 +255,5 @@ remove-entry m a r = do
 
 -- To compute with this file's definitions: `unfolding open-master` opens them all.
 unfoldable pub open-master : Unit {0}
-unfolding key-number address-in address key-at primary-of find-along find-primary find-key unused-from enter join carry last-primary named-by move-away displace put-held put-entry no-lines without-lines erase new-last unlink promoted succeed remove-primary remove-entry
+unfolding key-number address-in address key-at primary-of find-along find-primary find-key unused-from enter lengthen join carry last-primary named-by relink move-away displace put-held put-entry no-lines without-lines erase new-last close-up cut lowered unlink promoted promote succeed remove-primary remove-entry
 open-master = tt

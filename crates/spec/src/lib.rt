@@ -76,6 +76,12 @@ pub struct Head {
     pub fore: u32,
 }
 
+// A secondary's primary, and what its count becomes when the secondary goes.
+pub struct Lowered {
+    pub at: u32,
+    pub count: u16,
+}
+
 // The backward and the forward link of a line on one path.
 pub struct Links {
     pub back: u32,
