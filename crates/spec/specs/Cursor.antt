@@ -30,11 +30,11 @@ unfoldable pub cursor-good : View → Cursor → Bool
 cursor-good v c = leb (c .path) (paths-in v) && leb (c .current) (view-shape v .cap)
 
 -- "Find sets the path, record 0, back = last, forward = first"
-unfoldable pub at-chain : ℕ → Head → Cursor
+abbrev pub at-chain : ℕ → Head → Cursor
 at-chain p h = record { current = 0; path = p; back = h .back; fore = h .fore }
 
 -- "Get and put make their record current and save its links on the current path"
-unfoldable pub at-record : Cursor → ℕ → Links → Cursor
+abbrev pub at-record : Cursor → ℕ → Links → Cursor
 at-record c r l = record { current = r; path = c .path; back = l .back; fore = l .fore }
 
 abbrev pub no-links : Links
@@ -175,5 +175,5 @@ record-for no-mode s a c r key = refuse NoMode
 
 -- To compute with this file's definitions: `unfolding open-cursor` opens them all.
 unfoldable pub open-cursor : Unit {0}
-unfolding paths-in cursor-good at-chain at-record saved-links seen links-readable readable readings reading mode-good value-good path-chosen nonzero current-record live-above live-down given-record saved-record keyed-record numbered-record chained-record record-for
+unfolding paths-in cursor-good saved-links seen links-readable readable readings reading mode-good value-good path-chosen nonzero current-record live-above live-down given-record saved-record keyed-record numbered-record chained-record record-for
 open-cursor = tt

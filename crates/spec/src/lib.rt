@@ -1,5 +1,7 @@
-// The values that the definitions of specs/ and the functions of the engine share. There is no function here: what the
-// engine computes is said in specs/, and each of its functions is proved against one definition there.
+// The values that the definitions of specs/ and the functions of the engine share. What the engine computes is said in specs/,
+// and each of its functions is proved against one definition there; here are the cursor's own moves alone.
+ghost use mathlib.Core.Path.{_≡_};
+ghost use Rattle.spec.specs.Cursor.{fresh, at-chain, at-record};
 
 // Why a call is refused, one case for each row of document 01's table "Condition words". `number` in specs/Outcome.antt
 // gives each its number; a path's number goes with the two that tell it.
@@ -108,4 +110,39 @@ pub struct Cursor {
     pub path: u32,
     pub back: u32,
     pub fore: u32,
+}
+
+impl Cursor {
+    // "fresh is all 0"
+    pub fn new() -> Self
+        ensures { λ c. ⌜ c ≡ fresh ⌝ }
+    {
+        Cursor {
+            current: 0,
+            path: 0,
+            back: 0,
+            fore: 0,
+        }
+    }
+
+    // "Find sets the path, record 0, back = last, forward = first"
+    pub fn at_chain(mut self, path: u32, h: Head) -> Self
+        ensures { λ c. ⌜ c ≡ at-chain path h ⌝ }
+    {
+        self.current = 0;
+        self.path = path;
+        self.back = h.back;
+        self.fore = h.fore;
+        self
+    }
+
+    // "Get and put make their record current and save its links on the current path"
+    pub fn at_record(mut self, r: u32, l: Links) -> Self
+        ensures { λ c. ⌜ c ≡ at-record self r l ⌝ }
+    {
+        self.current = r;
+        self.back = l.back;
+        self.fore = l.fore;
+        self
+    }
 }
