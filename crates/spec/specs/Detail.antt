@@ -14,6 +14,7 @@ use Rattle.spec.specs.declared.Links.{Links}
 use Rattle.spec.specs.declared.Master.{Master}
 use Rattle.spec.specs.declared.Path.{Path}
 use Rattle.spec.specs.declared.Spot.{Spot}
+use Rattle.spec.specs.declared.Hung.{Hung}
 use Rattle.spec.specs.declared.Taken.{Taken}
 use Rattle.spec.specs.Outcome.{Outcome, accept, refuse, require, _>>=_}
 use Rattle.spec.specs.Words.{greater}
@@ -94,30 +95,40 @@ spot-for d p a entry last =
 
 -- "The new links are that line and the one passed last; with 0 on a side, the head's first or last is the new line." "writes
 -- behind, ahead, head or primary, own record"
+unfoldable pub link-neighbours : Shape → Path → Area → ℕ → Spot → Area
+link-neighbours d p a r t = mend-back d (mend-fore d a (t .behind) (p .links) r) (t .ahead) (p .links) r
+
 unfoldable pub new-ends : Path → Area → ℕ → ℕ → Spot → Area
 new-ends p a k r t =
     let s : Shape = p .to .shape in
     let lasted : Area = elim (eqb (t .ahead) 0) [ true ↦ set-last s a k (p .head) r | false ↦ a ] in
     elim (eqb (t .behind) 0) [ true ↦ set-first s lasted k (p .head) r | false ↦ lasted ]
 
+unfoldable pub link-own : Shape → Path → Area → ℕ → Spot → Area
+link-own d p a r t = mend-fore d (mend-back d a r (p .links) (t .behind)) r (p .links) (t .ahead)
+
 unfoldable pub link-in : Shape → Path → Area → ℕ → Head → ℕ → Spot → Area
 link-in d p a k h r t =
-    let joined : Area = mend-back d (mend-fore d a (t .behind) (p .links) r) (t .ahead) (p .links) r in
-    let headed : Area = new-ends p (set-head-count (p .to .shape) joined k (p .head) (h .count + 1)) k r t in
-    mend-fore d (mend-back d headed r (p .links) (t .behind)) r (p .links) (t .ahead)
+    let counted : Area = set-head-count (p .to .shape) (link-neighbours d p a r t) k (p .head) (h .count + 1) in
+    link-own d p (new-ends p counted k r t) r t
 
--- One path's turn: what it leaves, and how many lines it passed. "in a path, master entry, head, own links, line behind,
--- line ahead"
+-- What a path's turn gives: the area, and how many lines it passed.
 pub record Placed : Type 0 where
   pub area : Area
   pub passed : ℕ
 
+-- The line r on the chain of record k of the master: "head, own links, line behind, line ahead"
+unfoldable pub place-line : Shape → Path → Area → ℕ → ℕ → List ℕ → Outcome Placed
+place-line d p a k r entry = do
+  h ← head-at d p a k
+  t ← spot-for d p a entry (h .back)
+  accept (record { area = link-in d p a k h r t; passed = t .passed })
+
+-- "in a path, master entry, head, .."
 unfoldable pub put-path : Shape → Path → ℕ → Area → ℕ → List ℕ → Outcome Placed
 put-path d p i a r entry = do
   m ← master-entry p i a (value (p .search) entry)
-  h ← head-at d p (m .area) (m .at)
-  t ← spot-for d p (m .area) entry (h .back)
-  accept (record { area = link-in d p (m .area) (m .at) h r t; passed = t .passed })
+  place-line d p (m .area) (m .at) r entry
 
 -- "put also answers the lines passed on each of four paths (0 for a path that is absent or unsorted, and on refusal)"
 abbrev pub none-passed : List ℕ
@@ -154,18 +165,19 @@ put-line d a entry = do
 -- Delete. "paths 1 upward, unlink, lower the count, and drop an automatic entry whose head counts are then all 0; the record
 -- becomes the first freed."
 
--- the head's last and first, where the line that goes was at that end
+-- Written: behind, ahead, head. The head's last and first, where the line that goes was at that end.
+unfoldable pub unlink-neighbours : Shape → Path → Area → Links → Area
+unlink-neighbours d p a l = mend-back d (mend-fore d a (l .back) (p .links) (l .fore)) (l .fore) (p .links) (l .back)
+
 unfoldable pub old-ends : Path → Area → ℕ → Links → Area
 old-ends p a k l =
     let s : Shape = p .to .shape in
     let lasted : Area = elim (eqb (l .fore) 0) [ true ↦ set-last s a k (p .head) (l .back) | false ↦ a ] in
     elim (eqb (l .back) 0) [ true ↦ set-first s lasted k (p .head) (l .fore) | false ↦ lasted ]
 
--- Written: behind, ahead, head.
 unfoldable pub link-out : Shape → Path → Area → ℕ → Head → Links → Area
 link-out d p a k h l =
-    let joined : Area = mend-back d (mend-fore d a (l .back) (p .links) (l .fore)) (l .fore) (p .links) (l .back) in
-    old-ends p (set-head-count (p .to .shape) joined k (p .head) (h .count - 1)) k l
+    old-ends p (set-head-count (p .to .shape) (unlink-neighbours d p a l) k (p .head) (h .count - 1)) k l
 
 -- "drop an automatic entry whose head counts are then all 0"
 unfoldable pub drop-empty : Master → List ℕ → Area → ℕ → Outcome Area
@@ -176,17 +188,27 @@ drop-empty m heads a k = do
 unfoldable pub drop-automatic : Master → List ℕ → Area → ℕ → Outcome Area
 drop-automatic m heads a k = elim (m .auto) [ true ↦ drop-empty m heads a k | false ↦ accept a ]
 
--- "Also 18: a detail delete whose master entry is absent"; "or must lower 0"
-unfoldable pub delete-path : Shape → Path → List ℕ → Area → ℕ → Outcome Area
-delete-path d p heads a r = do
-  k ← find-key (p .to) a (value-at d (p .search) a r)
-  _ ← check (ltb 0 k)
+-- What is read of line r on the chain of record k: "head, own links, line behind, line ahead"; "or must lower 0"
+unfoldable pub hung : Shape → Path → Area → ℕ → ℕ → Outcome Hung
+hung d p a k r = do
   h ← head-at d p a k
   l ← read-links d a r (p .links)
   _ ← follow d a (l .back)
   _ ← follow d a (l .fore)
   _ ← check (ltb 0 (h .count))
-  drop-automatic (p .to) heads (link-out d p a k h l) k
+  accept (record { head = h; links = l })
+
+unfoldable pub unhang : Shape → Path → List ℕ → Area → ℕ → ℕ → Outcome Area
+unhang d p heads a k r = do
+  g ← hung d p a k r
+  drop-automatic (p .to) heads (link-out d p a k (g .head) (g .links)) k
+
+-- "Also 18: a detail delete whose master entry is absent"
+unfoldable pub delete-path : Shape → Path → List ℕ → Area → ℕ → Outcome Area
+delete-path d p heads a r = do
+  k ← find-key (p .to) a (value-at d (p .search) a r)
+  _ ← check (ltb 0 k)
+  unhang d p heads a k r
 
 unfoldable pub delete-paths : Detail → ℕ → ℕ → ℕ → Area → Outcome Area
 delete-paths d r zero i a = accept a
@@ -206,5 +228,5 @@ delete-line d a r = do
 
 -- To compute with this file's definitions: `unfolding open-detail` opens them all.
 unfoldable pub open-detail : Unit {0}
-unfolding take-freed take-above take-record missing master-entry head-at pass at-end spot-for new-ends link-in put-path put-paths settle put-line old-ends link-out drop-empty drop-automatic delete-path delete-paths free-record delete-line
+unfolding take-freed take-above take-record missing master-entry head-at pass at-end spot-for link-neighbours new-ends link-own link-in place-line put-path put-paths settle put-line unlink-neighbours old-ends link-out drop-empty drop-automatic hung unhang delete-path delete-paths free-record delete-line
 open-detail = tt

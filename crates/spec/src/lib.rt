@@ -97,6 +97,12 @@ pub struct Spot {
     pub passed: u16,
 }
 
+// What a delete reads of a line on one path: its chain's head, and its own links.
+pub struct Hung {
+    pub head: Head,
+    pub links: Links,
+}
+
 // The record that a detail put takes, and what the set's two leading words become.
 pub struct Taken {
     pub at: u32,
