@@ -156,11 +156,16 @@ pub record Line : Type 0 where
   pub area : Area
   pub passed : List ℕ
 
+-- the put with its record taken
+unfoldable pub put-taken : Detail → Taken → Area → List ℕ → Outcome Line
+put-taken d t a entry = do
+  l ← put-paths d entry (t .at) (d .paths) 1 (record { area = a; passed = none-passed })
+  accept (record { at = t .at; area = settle (d .shape) (l .area) t entry; passed = l .passed })
+
 unfoldable pub put-line : Detail → Area → List ℕ → Outcome Line
 put-line d a entry = do
   t ← take-record (d .shape) a
-  l ← put-paths d entry (t .at) (d .paths) 1 (record { area = a; passed = none-passed })
-  accept (record { at = t .at; area = settle (d .shape) (l .area) t entry; passed = l .passed })
+  put-taken d t a entry
 
 -- Delete. "paths 1 upward, unlink, lower the count, and drop an automatic entry whose head counts are then all 0; the record
 -- becomes the first freed."
@@ -228,5 +233,5 @@ delete-line d a r = do
 
 -- To compute with this file's definitions: `unfolding open-detail` opens them all.
 unfoldable pub open-detail : Unit {0}
-unfolding take-freed take-above take-record missing master-entry head-at pass at-end spot-for link-neighbours new-ends link-own link-in place-line put-path put-paths settle put-line unlink-neighbours old-ends link-out drop-empty drop-automatic hung unhang delete-path delete-paths free-record delete-line
+unfolding take-freed take-above take-record missing master-entry head-at pass at-end spot-for link-neighbours new-ends link-own link-in place-line put-path put-paths settle put-taken put-line unlink-neighbours old-ends link-out drop-empty drop-automatic hung unhang delete-path delete-paths free-record delete-line
 open-detail = tt
