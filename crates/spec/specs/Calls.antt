@@ -136,17 +136,17 @@ find-steps root a cs s item key = do
 unfoldable pub find : List ℕ → Area → List Cursor → ℕ → ℕ → List ℕ → Answer
 find root a cs s item key = answer a cs s [] (find-steps root a cs s item key)
 
--- Get.
+-- Get, into a buffer of so many words.
 
-unfoldable pub get-steps : List ℕ → Area → List Cursor → ℕ → ℕ → ℕ → List ℕ → List ℕ → Outcome Done
-get-steps root a cs s mode r key buffer = do
+unfoldable pub get-steps : List ℕ → Area → List Cursor → ℕ → ℕ → ℕ → List ℕ → ℕ → Outcome Done
+get-steps root a cs s mode r key room = do
   v ← named-set root a s
   c ← named-cursor v cs s
   let how = reading v mode
   _ ← require (mode-good how) NoMode
   _ ← require (value-good how key) WrongLength
   _ ← require (path-chosen how c) NoPath
-  _ ← require (leb (entry-size v) (length buffer)) ShortBuffer
+  _ ← require (leb (entry-size v) room) ShortBuffer
   k ← record-for how (view-shape v) a c r key
   _ ← readable v a (c .path) k
   let e = seen v a (c .path) k
@@ -160,7 +160,7 @@ get-steps root a cs s mode r key buffer = do
       })
 
 unfoldable pub get : List ℕ → Area → List Cursor → ℕ → ℕ → ℕ → List ℕ → List ℕ → Answer
-get root a cs s mode r key buffer = answer a cs s buffer (get-steps root a cs s mode r key buffer)
+get root a cs s mode r key buffer = answer a cs s buffer (get-steps root a cs s mode r key (length buffer))
 
 -- Put.
 
