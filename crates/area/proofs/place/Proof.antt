@@ -1,0 +1,9 @@
+use Rattle.area.proofs.Laws.{place-is}
+use borrow.Author.Needs.{needs}
+use Rattle.area.proofs.place.Statement.{statement}
+use Rattle.area.proofs.place.Tie as tie
+
+pub place-spec : {M : Type 1} → statement M
+place-spec =
+    tie.close
+    (tie.spec (λ c. search needs) (λ c κs. search needs) (λ c. search needs) (λ c. search needs) (λ c. (search place-is, search needs)))
