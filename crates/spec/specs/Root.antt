@@ -59,9 +59,6 @@ unfoldable pub item-length : List ℕ → ℕ → ℕ
 item-length root i = word root (2 * i + 1)
 
 -- "type (1 = I signed, 2 = K unsigned, 3 = X characters)"
-abbrev pub is-signed : ℕ → Bool
-is-signed type = eqb type 1
-
 abbrev pub is-unsigned : ℕ → Bool
 is-unsigned type = eqb type 2
 

@@ -12,9 +12,9 @@ use Rattle.spec.specs.declared.Cursor.{Cursor}
 use Rattle.spec.specs.Outcome.{open-outcome, number, twos}
 use Rattle.spec.specs.Words.{open-words, word, part, long, same}
 use Rattle.spec.specs.Root.{open-root, root-good, bit, max-sets}
-use Rattle.spec.specs.Layout.{open-layout, area-length, shape-of}
+use Rattle.spec.specs.Layout.{open-layout, area-length, size-of, shape-of, master-of}
 use Rattle.spec.specs.Area.{open-area, Area, place, live}
-use Rattle.spec.specs.Master.{open-master, key-number, address-in}
+use Rattle.spec.specs.Master.{open-master, key-number, address-in, address}
 use Rattle.spec.specs.Detail.{open-detail}
 use Rattle.spec.specs.Cursor.{open-cursor, fresh}
 use Rattle.spec.specs.Calls.{open-calls, Answer, make, find, get, put, update, delete}
@@ -49,9 +49,10 @@ by-date = 2
 
 -- A row asks one thing of the base as the rows above left it, and says what is answered.
 pub data Ask : Type 0 where
-  -- numbers alone: a key's number, an address, a condition word
+  -- numbers alone: a key's number, an address, the address of an account, a condition word
   key-of-text : List ℕ → Ask
   address-of : (cap v : ℕ) → Ask
+  account-at : (key : ℕ) → Ask
   stored : Refusal → Ask
   -- calls: told are the condition word, the record and, after a put, the lines passed on four paths
   a-put : (set : ℕ) → List ℕ → Ask
@@ -90,6 +91,7 @@ entry-from s = shape-of sample-root s .front
 unfoldable pub ask : Base → Ask → Told
 ask b (key-of-text key) = record { base = b; told = key-number 257 0 key ∷ [] }
 ask b (address-of cap v) = record { base = b; told = address-in cap v ∷ [] }
+ask b (account-at key) = record { base = b; told = address (master-of sample-root accounts) (key ∷ []) ∷ [] }
 ask b (stored why) = record { base = b; told = twos (number why) ∷ [] }
 ask b (a-put s entry) = let w : Answer = put sample-root (b .area) (b .cursors) s entry in after w (w .passed)
 ask b (a-delete s) = after (delete sample-root (b .area) (b .cursors) s) []
@@ -124,11 +126,11 @@ line acct date = acct ∷ date ∷ 7 ∷ []
 unfoldable pub table : List Row
 table =
     -- P1 "C = 5: keys 1, 5, 6, 0, 65535 go to 1, 5, 1, 5, 5."
-    (address-of 5 1 gives 1 ∷ [])
-    ∷ (address-of 5 5 gives 5 ∷ [])
-    ∷ (address-of 5 6 gives 1 ∷ [])
-    ∷ (address-of 5 0 gives 5 ∷ [])
-    ∷ (address-of 5 65535 gives 5 ∷ [])
+    (account-at 1 gives 1 ∷ [])
+    ∷ (account-at 5 gives 5 ∷ [])
+    ∷ (account-at 6 gives 1 ∷ [])
+    ∷ (account-at 0 gives 5 ∷ [])
+    ∷ (account-at 65535 gives 5 ∷ [])
     -- P2 ""ABCD" gives 4310662; C = 101: address 83."
     ∷ (key-of-text (16706 ∷ 17220 ∷ []) gives 4310662 ∷ [])
     ∷ (address-of 101 4310662 gives 83 ∷ [])
@@ -199,6 +201,9 @@ made-with cap words = word (make (sample-root-at cap) (replicate words 7) .statu
 
 pub edges : same
     (length sample-root
+    ∷ size-of sample-root accounts
+    ∷ size-of sample-root dates
+    ∷ size-of sample-root lines
     ∷ area-length sample-root
     ∷ bit (root-good (sample-root-at 4095))
     ∷ bit (root-good (sample-root-at 4096))
@@ -207,7 +212,7 @@ pub edges : same
     ∷ made-with 5 172
     ∷ made-with 5 174
     ∷ [])
-    (109 ∷ 173 ∷ 1 ∷ 0 ∷ 0 ∷ twos (number BadRoot) ∷ twos (number BadLength) ∷ twos (number BadLength) ∷ [])
+    (109 ∷ 68 ∷ 58 ∷ 47 ∷ 173 ∷ 1 ∷ 0 ∷ 0 ∷ twos (number BadRoot) ∷ twos (number BadLength) ∷ twos (number BadLength) ∷ [])
     ≡ true
 unfolding open-outcome open-words open-root open-layout open-area open-master open-detail open-cursor open-calls sample-root-at
 edges = refl
