@@ -124,40 +124,49 @@ find-chain d p i a key = do
         words = [];
       })
 
+unfoldable pub find-on : List ℕ → ℕ → Detail → Area → ℕ → List ℕ → Outcome Done
+find-on root s d a item key = do
+  p ← nonzero (search-path root s item) NotSearched
+  _ ← require (eqb (length key) (item-length root item)) WrongLength
+  find-chain (d .shape) (d .path p) p a key
+
 unfoldable pub find-steps : List ℕ → Area → List Cursor → ℕ → ℕ → List ℕ → Outcome Done
 find-steps root a cs s item key = do
   v ← named-set root a s
   d ← the-detail v
   _ ← named-cursor v cs s
-  p ← nonzero (search-path root s item) NotSearched
-  _ ← require (eqb (length key) (item-length root item)) WrongLength
-  find-chain (d .shape) (d .path p) p a key
+  find-on root s d a item key
 
 unfoldable pub find : List ℕ → Area → List Cursor → ℕ → ℕ → List ℕ → Answer
 find root a cs s item key = answer a cs s [] (find-steps root a cs s item key)
 
 -- Get, into a buffer of so many words.
 
+-- of the set v with its cursor c
+unfoldable pub get-on : View → Area → Cursor → ℕ → ℕ → List ℕ → ℕ → Outcome Done
+get-on v a c mode r key room =
+    let how : Reading = reading v mode in do
+      _ ← require (mode-good how) NoMode
+      _ ← require (value-good how key) WrongLength
+      _ ← require (path-chosen how c) NoPath
+      _ ← require (leb (entry-size v) room) ShortBuffer
+      k ← record-for how (view-shape v) a c r key
+      _ ← readable v a (c .path) k
+      let e = seen v a (c .path) k
+      accept
+          (record {
+            status = status-words (entry-size v) k (e .number) (e .links);
+            cursor = at-record c k (e .links);
+            passed = none-passed;
+            area = a;
+            words = entry-at (view-shape v) a k;
+          })
+
 unfoldable pub get-steps : List ℕ → Area → List Cursor → ℕ → ℕ → ℕ → List ℕ → ℕ → Outcome Done
 get-steps root a cs s mode r key room = do
   v ← named-set root a s
   c ← named-cursor v cs s
-  let how = reading v mode
-  _ ← require (mode-good how) NoMode
-  _ ← require (value-good how key) WrongLength
-  _ ← require (path-chosen how c) NoPath
-  _ ← require (leb (entry-size v) room) ShortBuffer
-  k ← record-for how (view-shape v) a c r key
-  _ ← readable v a (c .path) k
-  let e = seen v a (c .path) k
-  accept
-      (record {
-        status = status-words (entry-size v) k (e .number) (e .links);
-        cursor = at-record c k (e .links);
-        passed = none-passed;
-        area = a;
-        words = entry-at (view-shape v) a k;
-      })
+  get-on v a c mode r key room
 
 unfoldable pub get : List ℕ → Area → List Cursor → ℕ → ℕ → ℕ → List ℕ → List ℕ → Answer
 get root a cs s mode r key buffer = answer a cs s buffer (get-steps root a cs s mode r key (length buffer))
@@ -176,10 +185,8 @@ unfoldable pub put-in : View → Area → List ℕ → Outcome Line
 put-in (a-master m heads) a entry = put-master m a entry
 put-in (a-detail d) a entry = put-line d a entry
 
-unfoldable pub put-steps : List ℕ → Area → List Cursor → ℕ → List ℕ → Outcome Done
-put-steps root a cs s entry = do
-  v ← named-set root a s
-  c ← named-cursor v cs s
+unfoldable pub put-on : View → Area → Cursor → List ℕ → Outcome Done
+put-on v a c entry = do
   _ ← require (open-to-change v) NotByCall
   _ ← require (eqb (length entry) (entry-size v)) WrongLength
   l ← put-in v a entry
@@ -192,6 +199,12 @@ put-steps root a cs s entry = do
         area = l .area;
         words = [];
       })
+
+unfoldable pub put-steps : List ℕ → Area → List Cursor → ℕ → List ℕ → Outcome Done
+put-steps root a cs s entry = do
+  v ← named-set root a s
+  c ← named-cursor v cs s
+  put-on v a c entry
 
 unfoldable pub put : List ℕ → Area → List Cursor → ℕ → List ℕ → Answer
 put root a cs s entry = answer a cs s [] (put-steps root a cs s entry)
@@ -214,10 +227,8 @@ keeps-all (a-master m heads) a r entry = keeps (m .shape) a r entry (m .key)
 keeps-all (a-detail d) a r entry = keeps-paths d a r entry (d .paths)
 
 -- "Update and delete leave the cursor". "After update and delete, words 3 to 10 are 0 (H)"
-unfoldable pub update-steps : List ℕ → Area → List Cursor → ℕ → List ℕ → Outcome Done
-update-steps root a cs s entry = do
-  v ← named-set root a s
-  c ← named-cursor v cs s
+unfoldable pub update-on : View → Area → Cursor → List ℕ → Outcome Done
+update-on v a c entry = do
   _ ← require (open-to-change v) NotByCall
   _ ← require (eqb (length entry) (entry-size v)) WrongLength
   r ← current-record (view-shape v) a c
@@ -230,6 +241,12 @@ update-steps root a cs s entry = do
         area = put-entry-at (view-shape v) a r entry;
         words = [];
       })
+
+unfoldable pub update-steps : List ℕ → Area → List Cursor → ℕ → List ℕ → Outcome Done
+update-steps root a cs s entry = do
+  v ← named-set root a s
+  c ← named-cursor v cs s
+  update-on v a c entry
 
 unfoldable pub update : List ℕ → Area → List Cursor → ℕ → List ℕ → Answer
 update root a cs s entry = answer a cs s [] (update-steps root a cs s entry)
@@ -247,19 +264,23 @@ unfoldable pub delete-in : View → Area → ℕ → Outcome Area
 delete-in (a-master m heads) a r = delete-master m heads a r
 delete-in (a-detail d) a r = delete-line d a r
 
-unfoldable pub delete-steps : List ℕ → Area → List Cursor → ℕ → Outcome Done
-delete-steps root a cs s = do
-  v ← named-set root a s
-  c ← named-cursor v cs s
+unfoldable pub delete-on : View → Area → Cursor → Outcome Done
+delete-on v a c = do
   _ ← require (open-to-change v) NotByCall
   r ← current-record (view-shape v) a c
   b ← delete-in v a r
   accept (record { status = status-words 0 0 0 no-links; cursor = c; passed = none-passed; area = b; words = [] })
+
+unfoldable pub delete-steps : List ℕ → Area → List Cursor → ℕ → Outcome Done
+delete-steps root a cs s = do
+  v ← named-set root a s
+  c ← named-cursor v cs s
+  delete-on v a c
 
 unfoldable pub delete : List ℕ → Area → List Cursor → ℕ → Answer
 delete root a cs s = answer a cs s [] (delete-steps root a cs s)
 
 -- To compute with this file's definitions: `unfolding open-calls` opens them all.
 unfoldable pub open-calls : Unit {0}
-unfolding status-words answer known named-set named-cursor open-to-change made make the-detail find-chain find-steps find get-steps get put-master put-in put-steps put keeps keeps-paths keeps-all update-steps update delete-master delete-in delete-steps delete
+unfolding status-words answer known named-set named-cursor open-to-change made make the-detail find-chain find-on find-steps find get-on get-steps get put-master put-in put-on put-steps put keeps keeps-paths keeps-all update-on update-steps update delete-master delete-in delete-on delete-steps delete
 open-calls = tt
