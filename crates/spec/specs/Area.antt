@@ -1,5 +1,6 @@
 -- Document 01, "The area": the map, the words of a record, and the reading of counts and links with the rules of answer 18.
--- The steps reach the area through these definitions alone, so each count and each link has one reader and one writer.
+-- The steps reach the area through these definitions alone, so the place and the width of a count or a link stand here and
+-- in Layout and nowhere else.
 -- Assumes nothing.
 use Prim.Native.Nat.{ℕ, zero, suc, _+_, _-_, _*_, _/_, _%_, _^_}
 use mathlib.Core.Bool.{Bool, true, false, _&&_, _||_, not}
@@ -96,7 +97,7 @@ put-entry-at s a r entry = poke-part s a r (s .front) entry
 abbrev pub value : Field → List ℕ → List ℕ
 value f entry = part entry (f .at) (f .size)
 
--- "Each has two words (high-water mark and first freed record)"
+-- "Each has two words (high-water mark and first freed record; .."
 
 unfoldable pub mark : Shape → Area → ℕ
 mark s a = word a (s .start + mark-at)

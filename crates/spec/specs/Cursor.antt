@@ -118,24 +118,24 @@ path-chosen no-mode c = true
 unfoldable pub nonzero : ℕ → Refusal → Outcome ℕ
 nonzero r why = elim (eqb r 0) [ true ↦ refuse why | false ↦ accept r ]
 
--- "1: the current record; 17 if none or unused". Update and delete ask the same: "update, delete on no live record"
+-- Mode 1: "the current record"; "17 if none or unused". Update and delete ask the same: "update, delete on no live record"
 unfoldable pub current-record : Shape → Area → Cursor → Outcome ℕ
 current-record s a c = do
   _ ← require (ltb 0 (c .current)) NoRecord
   _ ← require (live s a (c .current)) NoRecord
   accept (c .current)
 
--- "2: lowest live above current; 11": among n records above r; 0 where none is live
+-- Mode 2: "lowest live above current"; 11. Among n records above r; 0 where none is live
 unfoldable pub live-above : Shape → Area → ℕ → ℕ → ℕ
 live-above s a zero r = 0
 live-above s a (suc n) r = elim (live s a (r + 1)) [ true ↦ r + 1 | false ↦ live-above s a n (r + 1) ]
 
--- "3: highest live below current; 10": from r down; 0 where none is live
+-- Mode 3: "highest live below current"; 10. From r down; 0 where none is live
 unfoldable pub live-down : Shape → Area → ℕ → ℕ
 live-down s a zero = 0
 live-down s a (suc r) = elim (live s a (suc r)) [ true ↦ suc r | false ↦ live-down s a r ]
 
--- "4: the given record; 12 for 0, 13 above C, 17 unused"
+-- Mode 4: "the given record"; "12 for 0, 13 above C, 17 unused"
 unfoldable pub given-record : Shape → Area → ℕ → Outcome ℕ
 given-record s a r = do
   _ ← require (ltb 0 r) RecordZero
@@ -143,7 +143,7 @@ given-record s a r = do
   _ ← require (live s a r) NoRecord
   accept r
 
--- "5: saved forward; 15 if 0", "6: saved back; 14 if 0"; the link is read and followed
+-- Mode 5: "saved forward"; "15 if 0". Mode 6: "saved back"; "14 if 0". The link is read and followed
 unfoldable pub saved-record : Shape → Area → ℕ → Refusal → Outcome ℕ
 saved-record s a r none = do
   _ ← nonzero r none
@@ -151,7 +151,7 @@ saved-record s a r none = do
   _ ← follow s a r
   accept r
 
--- "7: the given key; 17 if absent"
+-- Mode 7: "the given key"; "17 if absent"
 unfoldable pub keyed-record : Master → Area → List ℕ → Outcome ℕ
 keyed-record m a key = do
   r ← find-key m a key

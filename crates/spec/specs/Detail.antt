@@ -58,7 +58,7 @@ master-entry p i a key = do
 unfoldable pub head-at : Shape → Path → Area → ℕ → Outcome Head
 head-at d p a k = read-head (d .cap) (p .to .shape) a k (p .head)
 
--- "Sorted: from the last line backward, pass each line whose sort value is greater than the new one, and stand after the
+-- "Sorted: from the last line backward, pass each line whose sort value is greater than the new one (..), and stand after the
 -- first that isn't." At most n lines are visited.
 unfoldable pub pass : Shape → Path → Area → List ℕ → ℕ → Spot → Outcome Spot
 pass d p a v zero t = elim (eqb (t .behind) 0) [ true ↦ accept t | false ↦ refuse Broken ]
@@ -117,7 +117,7 @@ pub record Placed : Type 0 where
   pub area : Area
   pub passed : ℕ
 
--- The line r on the chain of record k of the master: "head, own links, line behind, line ahead"
+-- The line r on the chain of record k of the master: "head, .. line behind, line ahead"
 unfoldable pub place-line : Shape → Path → Area → ℕ → ℕ → List ℕ → Outcome Placed
 place-line d p a k r entry = do
   h ← head-at d p a k
@@ -208,7 +208,7 @@ unhang d p heads a k r = do
   g ← hung d p a k r
   drop-automatic (p .to) heads (link-out d p a k (g .head) (g .links)) k
 
--- "Also 18: a detail delete whose master entry is absent"
+-- "Also 18: .. a detail delete whose master entry is absent"
 unfoldable pub delete-path : Shape → Path → List ℕ → Area → ℕ → Outcome Area
 delete-path d p heads a r = do
   k ← find-key (p .to) a (value-at d (p .search) a r)

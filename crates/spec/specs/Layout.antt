@@ -39,7 +39,7 @@ back-at = 0
 abbrev pub fore-at : ℕ
 fore-at = 2
 
--- "five words of chain head for each path leading here: count, last, first"
+-- "five words of chain head for each path leading here (..): count, last, first"
 abbrev pub head-words : ℕ
 head-words = 5
 
@@ -90,7 +90,7 @@ front-words root s =
 unfoldable pub record-words : List ℕ → ℕ → ℕ
 record-words root s = front-words root s + entry-length root s
 
--- the words of set s: "two words, then the map, then the records"
+-- the words of set s: "two words (..), then the map, then the records"
 unfoldable pub size-of : List ℕ → ℕ → ℕ
 size-of root s = lead-words + map-words (capacity root s) + capacity root s * record-words root s
 

@@ -96,7 +96,7 @@ unfoldable pub unused-from : Shape → Area → ℕ → ℕ → ℕ
 unused-from s a zero r = 0
 unused-from s a (suc n) r = elim (live s a r) [ true ↦ unused-from s a n (next-up (s .cap) r) | false ↦ r ]
 
--- a new entry in record r, with no lines: synonym words, heads, entry; "A master record goes live at its step's end"
+-- a new entry in record r, with no lines: synonym words, heads, entry; "A master record goes live .. at its step's end"
 unfoldable pub enter : Master → Area → ℕ → Head → List ℕ → Area
 enter m a r y entry =
     let s : Shape = m .shape in
@@ -110,7 +110,7 @@ lone = record { count = 1; back = 0; fore = 0 }
 unfoldable pub lengthen : Shape → Area → ℕ → ℕ → ℕ → ℕ → Area
 lengthen s a h count behind f = mend-synonym-back s (set-synonym-count s (mend-synonym-fore s a behind f) h (count + 1)) h f
 
--- "Held by a primary, take the first unused record and join the chain's end (behind last; behind h if that is 0)": y are the
+-- "Held by a primary, take the first unused record .. and join the chain's end (behind last; behind h if that is 0)": y are the
 -- synonym words of h, f is the record taken
 unfoldable pub join : Master → Area → ℕ → Head → ℕ → List ℕ → Outcome Put
 join m a h y f entry =
@@ -186,7 +186,7 @@ no-lines s a r (cap ∷ caps) j = do
 unfoldable pub without-lines : Master → List ℕ → Area → ℕ → Outcome Bool
 without-lines m heads a r = no-lines (m .shape) a r heads 0
 
--- "Unused record: zeros"; "A master record goes unused at its step's end"
+-- "Unused record: zeros"; "A master record goes .. unused at its step's end"
 unfoldable pub erase : Master → Area → ℕ → Area
 erase m a r = go-unused (m .shape) (blank (m .shape) a r 0 (m .shape .width)) r
 

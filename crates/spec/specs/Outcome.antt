@@ -35,7 +35,7 @@ number WrongLength = minus 95
 number NoPath = minus 94
 -- "get: buffer shorter than the entry"
 number ShortBuffer = pos 50
--- "17, 10 to 15: as above; 17 also for find without a master entry, and for update, delete on no live record"
+-- 17, 10 to 15: "as above; 17 also for find without a master entry, and for update, delete on no live record"
 number NoRecord = pos 17
 number NoneBelow = pos 10
 number NoneAbove = pos 11

@@ -44,7 +44,7 @@ max-text-length = 32
 abbrev pub set-words : ℕ
 set-words = 33
 
--- "Word 1: items, 1..64. Word 2: sets, 1..16. Then two words per item: type and length in words". Items, sets, and the items
+-- "Word 1: items, 1..64. Word 2: sets, 1..16. Then two words per item: type .. and length in words". Items, sets, and the items
 -- and paths of a set are counted from 1.
 unfoldable pub items : List ℕ → ℕ
 items root = word root 0
@@ -65,7 +65,7 @@ is-unsigned type = eqb type 2
 abbrev pub is-text : ℕ → Bool
 is-text type = eqb type 3
 
--- "Then 33 words per set: kind; capacity; item count; key item number (0 for a detail); path count (0 for a master); 16 item
+-- "Then 33 words per set: kind ..; capacity ..; item count ..; key item number (0 for a detail); path count .. (0 for a master); 16 item
 -- numbers; four triples of master set, search item, sort item (0: none)."
 unfoldable pub description : List ℕ → ℕ → ℕ
 description root s = 2 + 2 * items root + set-words * (s - 1)
