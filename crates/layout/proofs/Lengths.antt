@@ -1,0 +1,177 @@
+-- What each way out of the functions that measure a set shows. Assumes nothing.
+use Prim.Native.Nat.{ℕ, _+_, _*_, _/_, _≤_, _<_, _-_}
+use mathlib.Core.Path.{_≡_, refl, sym, _∙_, ap}
+use mathlib.Core.Bool.{Bool, true}
+use mathlib.Core.List.{List}
+use mathlib.Core.Logic.{dite}
+use native.Mathlib.Decide.{ℕ-discrete}
+use native.Mathlib.Nat.{mul-le-mul}
+use native.Mathlib.Omega.{arith}
+use lib.ListN.{length, getD, set, length-set}
+use lib.Seq.{getD-set-same, getD-set-other}
+use lib.Dec.{eqb}
+use mir.Syntax.{w16, w32}
+use mir.Val.{Fits}
+use borrow.Author.Needs.{fits-under}
+use Rattle.spec.specs.Words.{total}
+use Rattle.spec.specs.Root.{sets, item-length, kind, capacity, item-count, path-count, set-item, leading, root-good}
+use Rattle.spec.specs.Layout.{items-length, entry-length, front-words, record-words, size-of, start-of, area-length}
+use Rattle.root.specs.declared.Plan.{Plan}
+use Rattle.root.specs.Ranges.{total-more}
+use Rattle.root.specs.Plan.{Leads, Slots, Starts, Planned}
+use Rattle.root.specs.Good.{root-facts, few-paths, leads-few}
+use Rattle.root.specs.Sizes.{entry-fits, front-detail, front-master, size-fits, start-next, start-fits}
+use Rattle.layout.specs.Views.{Started}
+
+-- ---- the items
+module _ (root : List ℕ) (s : ℕ) where
+  pub sum-start : 0 ≡ items-length root s 0
+  unfolding items-length total
+  sum-start = refl
+
+  module _ (j sum : ℕ) (p : sum ≡ items-length root s j) where
+    pub sum-turn : (i l : ℕ) → i ≡ set-item root s (j + 1) → l ≡ item-length root i → sum + l ≡ items-length root s (j + 1)
+    unfolding items-length
+    sum-turn i l q r =
+        let e : total (j + 1) (λ j. item-length root (set-item root s j)) ≡ total j (λ j. item-length root (set-item root s j)) + item-length root (set-item root s (j + 1)) =
+        total-more (λ j. item-length root (set-item root s j)) (j + 1) j (omega arith) in
+        let f : l ≡ item-length root (set-item root s (j + 1)) = r ∙ ap (item-length root) q in
+        omega arith
+
+    pub sum-end : (n : ℕ) → j ≤ n → n ≤ j → sum ≡ items-length root s n
+    sum-end n a b = let e : j ≡ n = omega arith in p ∙ rw e
+
+-- ---- a good root's lengths fit
+module _ (root : List ℕ) (s : ℕ) (good : root-good root ≡ true) (low : 1 ≤ s) (high : s ≤ sets root) where
+  module _ (n e : ℕ) (p : n ≡ item-count root s) (q : e ≡ items-length root s n) where
+    as-entry : e ≡ entry-length root s
+    unfolding entry-length
+    as-entry = q ∙ rw p
+
+    pub entry-is : e ≡ entry-length root s
+    entry-is = as-entry
+
+    pub entry-small : e ≤ 512
+    entry-small = let a : e ≡ entry-length root s = as-entry in let b : entry-length root s ≤ 512 = entry-fits root good s low high in omega arith
+
+    pub entry-word : Fits w16 e
+    entry-word = let a : e ≤ 512 = entry-small in fits-under w16 e 65536 (omega arith) tt
+
+  module _ (n : ℕ) (p : n ≡ path-count root s) where
+    pub links-word : Fits w16 (4 * n)
+    links-word =
+        let a : path-count root s ≤ 4 = few-paths root good s low high in
+        fits-under w16 (4 * n) 65536 (omega arith) tt
+
+    module _ (k : ℕ) (q : k ≡ kind root s) (e : k ≡ 3) where
+      pub links-are : 4 * n ≡ front-words root s
+      links-are = let a : front-words root s ≡ 4 * path-count root s = front-detail root good s low high (sym q ∙ e) in omega arith
+
+      pub links-small : 4 * n ≤ 45
+      links-small = let a : path-count root s ≤ 4 = few-paths root good s low high in omega arith
+
+  module _ (lead : ℕ) (p : lead ≡ leading root s (sets root)) where
+    few : lead ≤ 8
+    few = let a : leading root s (sets root) ≤ 8 = leads-few root good s in omega arith
+
+    pub heads-part : Fits w16 (5 * lead)
+    heads-part = let a : lead ≤ 8 = few in fits-under w16 (5 * lead) 65536 (omega arith) tt
+
+    pub heads-word : Fits w16 (5 + 5 * lead)
+    heads-word = let a : lead ≤ 8 = few in fits-under w16 (5 + 5 * lead) 65536 (omega arith) tt
+
+    pub heads-small : 5 + 5 * lead ≤ 45
+    heads-small = let a : lead ≤ 8 = few in omega arith
+
+    pub heads-are : (k : ℕ) → k ≡ kind root s → (k ≡ 3 → ⊥) → 5 + 5 * lead ≡ front-words root s
+    heads-are k q e =
+        let a : front-words root s ≡ 5 + 5 * leading root s (sets root) = front-master root good s low high (λ z. e (q ∙ z)) in omega arith
+
+  module _ (cap front entry : ℕ) (p : cap ≡ capacity root s) (q : front ≡ front-words root s) (r : entry ≡ entry-length root s) where
+    pub size-is : (v : ℕ) → v ≡ cap * (front + entry) → 2 + (cap + 15) / 16 + v ≡ size-of root s
+    unfolding size-of record-words
+    size-is v e = rw (← p, ← q, ← r, e)
+
+    pub size-small : (v : ℕ) → v ≡ cap * (front + entry) → 2 + (cap + 15) / 16 + v ≤ 2281173
+    size-small v e = rw (size-is v e) (size-fits root good s low high)
+
+-- ---- a product of two words
+pub times-small : (a b : ℕ) → Fits w16 a → Fits w16 b → a * b ≤ 4294836225
+times-small a b p q =
+    let x : a < 65536 = p .fits in
+    let y : b < 65536 = q .fits in
+    let k : a ≤ 65535 = omega arith in
+    let l : b ≤ 65535 = omega arith in
+    mul-le-mul k l
+
+pub times-fits : (a b : ℕ) → Fits w16 a → Fits w16 b → Fits w32 (a * b)
+times-fits a b p q = let x : a * b ≤ 4294836225 = times-small a b p q in fits-under w32 (a * b) 4294967296 (omega arith) tt
+
+-- ---- the starts
+module _ (root : List ℕ) (s at : ℕ) (starts : List ℕ) (g : Started root s starts) where
+  pub started-turn : (n : ℕ) → 1 ≤ s → s ≤ n → n ≡ sets root → sets root ≤ 16 → at ≡ start-of root s → Started root (s + 1) (set starts (s - 1) at)
+  started-turn n a b d c e =
+      record {
+        long = length-set starts (s - 1) at ∙ g .long;
+        before = λ t l h.
+            dite (ℕ-discrete t s) (λ z. rw (z, getD-set-same starts (s - 1) at 0 (rw (g .long) (omega arith))) e)
+            (λ z. rw (getD-set-other starts (s - 1) (t - 1) at 0 (λ y. z (omega arith))) (g .before t l (omega arith)));
+      }
+
+pub started-start : (root starts : List ℕ) → length starts ≡ 16 → Started root 1 starts
+started-start root starts e = record { long = e; before = λ t l h. absurd (omega arith) }
+
+pub start-first : (root : List ℕ) → 0 ≡ start-of root 1
+unfolding start-of total
+start-first root = refl
+
+pub start-turn : (root : List ℕ) (s at z : ℕ) → 1 ≤ s → at ≡ start-of root s → z ≡ size-of root s → at + z ≡ start-of root (s + 1)
+start-turn root s at z l p q = let e : start-of root (s + 1) ≡ start-of root s + size-of root s = start-next root s l in omega arith
+
+module _ (root : List ℕ) (s n : ℕ) (p : n ≡ sets root) (a : n < s) (b : s ≤ n + 1) where
+  pub start-last : (at : ℕ) → at ≡ start-of root s → at ≡ area-length root
+  unfolding start-of area-length
+  start-last at q = let e : s - 1 ≡ sets root = omega arith in q ∙ rw e
+
+  pub starts-whole : (starts : List ℕ) → Started root s starts → Starts root starts
+  unfolding Starts
+  starts-whole starts g t l h = g .before t l (omega arith)
+
+pub planned :
+    (root leads slots starts : List ℕ) (b : Bool) → b ≡ root-good root → b ≡ true → (b ≡ true → Leads root leads) → (b ≡ true → Slots root slots) →
+    Starts root starts → Planned root (record { leads = leads; slots = slots; starts = starts })
+unfolding Leads Slots Starts
+planned root leads slots starts b p e f g h = record { good = sym p ∙ e; leads = f e; slots = g e; starts = h }
+
+-- ---- the plan read again
+module _ (root : List ℕ) (plan : Plan) (g : Planned root plan) (s : ℕ) (low : 1 ≤ s) (high : s ≤ sets root) where
+  pub plan-place : s - 1 < 16
+  plan-place = let a : sets root ≤ 16 = root-facts root (g .good) .sets-high in omega arith
+
+  pub plan-lead : getD (plan .leads) (s - 1) 0 ≡ leading root s (sets root)
+  plan-lead = g .leads s low high
+
+  pub plan-lead-few : getD (plan .leads) (s - 1) 0 ≤ 8
+  plan-lead-few = rw plan-lead (leads-few root (g .good) s)
+
+  pub plan-start : getD (plan .starts) (s - 1) 0 ≡ start-of root s
+  plan-start = g .starts s low high
+
+  pub plan-start-small : getD (plan .starts) (s - 1) 0 ≤ 34217595
+  plan-start-small =
+      let a : sets root ≤ 16 = root-facts root (g .good) .sets-high in
+      let b : start-of root s ≤ 2281173 * (s - 1) = start-fits root (g .good) s low high in
+      rw plan-start (omega arith)
+
+  pub plan-good : root-good root ≡ true
+  plan-good = g .good
+
+-- ---- the verdict
+pub good-told : (root : List ℕ) (b : Bool) → b ≡ root-good root → b ≡ true → true ≡ root-good root
+good-told root b p e = sym e ∙ p
+
+pub good-sets : (root : List ℕ) (b : Bool) → b ≡ root-good root → b ≡ true → sets root ≤ 16
+good-sets root b p e = root-facts root (sym p ∙ e) .sets-high
+
+pub size-told : (area total whole : ℕ) → total ≡ whole → eqb area total ≡ eqb area whole
+size-told area total whole e = rw e

@@ -1,0 +1,234 @@
+-- What each way out of the functions that judge a root shows. Assumes nothing.
+use Prim.Native.Nat.{ℕ, suc, _+_, _*_, _^_, _≤_, _<_, _-_}
+use mathlib.Core.Path.{_≡_, refl, sym, _∙_}
+use mathlib.Core.Bool.{Bool, true, false, _&&_, _||_}
+use mathlib.Core.List.{List}
+use mathlib.Core.Logic.{dite}
+use native.Mathlib.Omega.{arith}
+use native.Mathlib.Decide.{decLe}
+use lib.ListN.{length, getD}
+use lib.Dec.{leb, eqb}
+use lib.Bits.{bitOr}
+use borrow.Author.Tests.{eq-eqb, ne-eqb, le-leb, lt-leb}
+use Rattle.spec.specs.Words.{all, any, within}
+use Rattle.spec.specs.Root.{items, sets, root-length, item-type, item-length, kind, key-item, path-count, item-count, set-item, item-good, among, item-listed, kind-good, description, capacity, set-item-good, set-good}
+use Rattle.root.specs.Ranges.{refused, never-both, or-none, any-more, and-both, and-false, same-test, all-at, all-of, all-fails}
+use Rattle.root.specs.Good.{place-listed}
+use Rattle.root.proofs.Loops.{all-more}
+use Rattle.rules.specs.Rules.{framed, unused, items-good, held, Holds}
+use Rattle.rules.proofs.Bits.{held-none, held-with}
+
+-- ---- an item
+neither : (a b : Bool) → false ≡ a && false || b && false
+neither true b = sym (and-false b false refl)
+neither false b = sym (and-false b false refl)
+
+module _ (root : List ℕ) (i t n : ℕ) (p : t ≡ item-type root i) (q : n ≡ item-length root i) where
+  pub length-zero : n < 1 → false ≡ item-good root i
+  unfolding item-good
+  length-zero h = rw (← p, ← q, lt-leb 1 n h) (neither (within 1 2 t) (eqb t 3))
+
+  module _ (h : 1 ≤ n) where
+    pub text-good : t ≡ 3 → leb n 32 ≡ item-good root i
+    unfolding item-good
+    text-good e = rw (← p, ← q, e, le-leb 1 n h)
+
+    module _ (e : t ≡ 3 → ⊥) where
+      pub type-zero : t < 1 → false ≡ item-good root i
+      unfolding item-good
+      type-zero a = rw (← p, ← q, ne-eqb t 3 e, lt-leb 1 t a)
+
+      pub no-type : 2 < t → false ≡ item-good root i
+      unfolding item-good
+      no-type b = rw (← p, ← q, ne-eqb t 3 e, and-false (leb 1 t) (leb t 2) (lt-leb t 2 b))
+
+      pub number-good : 1 ≤ t → t ≤ 2 → leb n 2 ≡ item-good root i
+      unfolding item-good
+      number-good a b = rw (← p, ← q, ne-eqb t 3 e, le-leb 1 t a, le-leb t 2 b, le-leb 1 n h) (or-none (leb n 2))
+
+-- ---- unused places
+module _ (root : List ℕ) (at k w : ℕ) (l : 1 ≤ k) (p : w ≡ getD root (at + k) 0) where
+  pub unused-turn : w ≡ 0 → all (k - 1) (unused root at) ≡ true → all (k + 1 - 1) (unused root at) ≡ true
+  unfolding unused
+  unused-turn z e = all-more (unused root at) k l e (eq-eqb (getD root (at + k) 0) 0 (sym p ∙ z))
+
+  pub unused-stop : (n : ℕ) → k ≤ n → (w ≡ 0 → ⊥) → false ≡ all n (unused root at)
+  unfolding unused
+  unused-stop n h z = sym (all-fails (unused root at) n k l h (ne-eqb (getD root (at + k) 0) 0 (λ e. z (p ∙ e))))
+
+-- ---- the frame
+pub length-tested :
+    (root : List ℕ) (i n : ℕ) → i ≡ items root → n ≡ sets root → 1 ≤ i → i ≤ 64 → 1 ≤ n → n ≤ 16 →
+    eqb (length root) (2 + 2 * i + 33 * n) ≡ framed root
+unfolding framed root-length
+length-tested root i n p q a b c d = rw (← p, ← q, le-leb 1 i a, le-leb i 64 b, le-leb 1 n c, le-leb n 16 d)
+
+-- ---- a set's items
+module _ (root : List ℕ) (s j x : ℕ) (l : 1 ≤ j) (p : x ≡ set-item root s j) where
+  module _ (n : ℕ) (h : j ≤ n) where
+    pub listed-low : x < 1 → false ≡ all n (item-listed root s)
+    listed-low a = sym (all-fails (item-listed root s) n j l h low)
+      where
+        low : item-listed root s j ≡ false
+        low = unfold item-listed in rw (← p, lt-leb 1 x a)
+
+    pub listed-high : (top : ℕ) → top ≡ items root → top < x → false ≡ all n (item-listed root s)
+    listed-high top q a = sym (all-fails (item-listed root s) n j l h high)
+      where
+        out : within 1 (items root) x ≡ false
+        out = and-false (leb 1 x) (leb x (items root)) (rw (← q) (lt-leb x top a))
+
+        high : item-listed root s j ≡ false
+        high = unfold item-listed in rw (← p, out)
+
+    pub listed-twice : (bits : ℕ) (b : Bool) → Holds root s (j - 1) bits → b ≡ held bits x → b ≡ true → false ≡ all n (item-listed root s)
+    unfolding Holds
+    listed-twice bits b g q t = sym (all-fails (item-listed root s) n j l h twice)
+      where
+        there : among root s (j - 1) x ≡ true
+        there = sym (g x) ∙ sym q ∙ t
+
+        twice : item-listed root s j ≡ false
+        twice = unfold item-listed in rw (← p, there) (and-false (within 1 (items root) x) false refl)
+
+  module _ (top bits : ℕ) (q : top ≡ items root) (a : 1 ≤ x) (k : x ≤ top) where
+    pub listed-turn :
+        (b : Bool) → Holds root s (j - 1) bits → b ≡ held bits x → b ≡ false → all (j - 1) (item-listed root s) ≡ true →
+        all (j + 1 - 1) (item-listed root s) ≡ true
+    unfolding Holds
+    listed-turn b g r t e = all-more (item-listed root s) j l e once
+      where
+        absent : among root s (j - 1) x ≡ false
+        absent = sym (g x) ∙ sym r ∙ t
+
+        once : item-listed root s j ≡ true
+        once = unfold item-listed in rw (← p, ← q, le-leb 1 x a, le-leb x top k, absent)
+
+    pub holds-turn : (v : ℕ) → v ≡ 2 ^ (x - 1) → items root ≤ 64 → Holds root s (j - 1) bits → Holds root s (j + 1 - 1) (bitOr bits v)
+    unfolding Holds among
+    holds-turn v r u g i =
+        let m : j + 1 - 1 ≡ suc (j - 1) = omega arith in
+        let f : j ≡ suc (j - 1) = omega arith in
+        rw (r, held-with bits x i a (omega arith), g i, m, any-more _ (suc (j - 1)) (j - 1) refl, ← f, ← p)
+
+pub holds-start : (root : List ℕ) (s : ℕ) → Holds root s (1 - 1) 0
+unfolding Holds among any
+holds-start root s i = held-none i
+
+pub holds-end : (root : List ℕ) (s j n bits : ℕ) → n < j → j ≤ n + 1 → Holds root s (j - 1) bits → Holds root s n bits
+holds-end root s j n bits a b g = let e : j - 1 ≡ n = omega arith in rw e at g
+
+-- ---- a set's kind
+module _ (root : List ℕ) (s k key n : ℕ) (p : k ≡ kind root s) (q : key ≡ key-item root s) (r : n ≡ path-count root s) where
+  pub detail-good : k ≡ 3 → key ≡ 0 → leb n 4 ≡ kind-good root s
+  unfolding kind-good
+  detail-good e f = rw (← p, ← q, ← r, e, f) (or-none (leb n 4))
+
+  pub detail-key : k ≡ 3 → (key ≡ 0 → ⊥) → false ≡ kind-good root s
+  unfolding kind-good
+  detail-key e f = rw (← p, ← q, ← r, e, ne-eqb key 0 f)
+
+  module _ (e : k ≡ 3 → ⊥) where
+    pub kind-low : k < 1 → false ≡ kind-good root s
+    unfolding kind-good
+    kind-low f = rw (← p, ne-eqb k 3 e, lt-leb 1 k f)
+
+    pub kind-high : 2 < k → false ≡ kind-good root s
+    unfolding kind-good
+    kind-high f = rw (← p, ne-eqb k 3 e, out)
+      where
+        out : within 1 2 k ≡ false
+        out = and-false (leb 1 k) (leb k 2) (lt-leb k 2 f)
+
+    module _ (a : 1 ≤ k) (b : k ≤ 2) where
+      pub master-good :
+          (bits : ℕ) (t : Bool) → Holds root s (item-count root s) bits → n ≡ 0 → t ≡ held bits key → t ≡ kind-good root s
+      unfolding kind-good Holds
+      master-good bits t g z h = h ∙ g key ∙ rw (← p, ← q, ← r, ne-eqb k 3 e, le-leb 1 k a, le-leb k 2 b, z)
+
+      pub master-paths : (n ≡ 0 → ⊥) → false ≡ kind-good root s
+      unfolding kind-good
+      master-paths z = rw (← p, ← q, ← r, ne-eqb k 3 e, le-leb 1 k a, le-leb k 2 b, ne-eqb n 0 z)
+
+-- ---- the 16 item numbers: the listed ones, and 0 after them
+place-unused : (root : List ℕ) (s j : ℕ) → item-count root s < j → set-item-good root s j ≡ unused root (description root s + 4 + item-count root s) (j - item-count root s)
+unfolding set-item-good unused set-item
+place-unused root s j h =
+    let e : description root s + 4 + item-count root s + (j - item-count root s) ≡ description root s + 4 + j = omega arith in
+    rw (set-item-good, lt-leb j (item-count root s) h, e)
+
+module _ (root : List ℕ) (s : ℕ) where
+  pub holds-told : (n bits : ℕ) (b : Bool) → (b ≡ true → Holds root s n bits) → b ≡ true → Holds root s n bits
+  holds-told n bits b f e = f e
+
+  module _ (n : ℕ) (p : n ≡ item-count root s) where
+    pub holds-counted : (bits : ℕ) (b : Bool) → (b ≡ true → Holds root s n bits) → b ≡ true → Holds root s (item-count root s) bits
+    holds-counted bits b f e = rw (← p) (f e)
+
+    pub items-none : n < 1 → false ≡ items-good root s
+    unfolding items-good
+    items-none h = rw (← p, lt-leb 1 n h)
+
+    pub items-many : 16 < n → false ≡ items-good root s
+    unfolding items-good
+    items-many h = rw (← p, and-false (leb 1 n) (leb n 16) (lt-leb n 16 h))
+
+    module _ (a : 1 ≤ n) (b : n ≤ 16) (t : Bool) (q : t ≡ all n (item-listed root s)) where
+      in-range : within 1 16 (item-count root s) ≡ true
+      in-range = rw (← p) (and-both (leb 1 n) (leb n 16) (le-leb 1 n a) (le-leb n 16 b))
+
+      as-places : all 16 (set-item-good root s) ≡ items-good root s
+      unfolding items-good
+      as-places = rw in-range
+
+      pub items-twice : t ≡ false → t ≡ items-good root s
+      items-twice e =
+          e
+          ∙ refused (all 16 (set-item-good root s))
+          (λ h.
+          never-both (all n (item-listed root s)) (sym q ∙ e)
+          (all-of (item-listed root s) n
+          (λ j l k. sym (place-listed root s j (rw p at k)) ∙ all-at (set-item-good root s) 16 j h l (omega arith))))
+          ∙ as-places
+
+      pub items-rest :
+          (d at : ℕ) (u : Bool) → t ≡ true → d ≡ description root s → at ≡ d + 4 + n → u ≡ all (16 - n) (unused root at) → u ≡ items-good root s
+      items-rest d at u e f g r = r ∙ same-test (all (16 - n) (unused root at)) (all 16 (set-item-good root s)) up down ∙ as-places
+        where
+          there : at ≡ description root s + 4 + item-count root s
+          there = rw (← f, ← p) g
+
+          each : (j : ℕ) → item-count root s < j → set-item-good root s j ≡ unused root at (j - n)
+          each j h = rw (there, p) (place-unused root s j h)
+
+          up : all (16 - n) (unused root at) ≡ true → all 16 (set-item-good root s) ≡ true
+          up h =
+              all-of (set-item-good root s) 16
+              (λ j l k.
+              dite (decLe j n) (λ m. place-listed root s j (rw p at m) ∙ all-at (item-listed root s) n j (sym q ∙ e) l m)
+              (λ m. each j (rw (← p) (omega arith)) ∙ all-at (unused root at) (16 - n) (j - n) h (omega arith) (omega arith)))
+
+          down : all 16 (set-item-good root s) ≡ true → all (16 - n) (unused root at) ≡ true
+          down h =
+              all-of (unused root at) (16 - n)
+              (λ k l m.
+              let z : n + k - n ≡ k = omega arith in
+              (rw z at (sym (each (n + k) (rw (← p) (omega arith))))) ∙ all-at (set-item-good root s) 16 (n + k) h (omega arith) (omega arith))
+
+  module _ (c : ℕ) (p : c ≡ capacity root s) where
+    pub capacity-none : c < 1 → false ≡ set-good root s
+    unfolding set-good
+    capacity-none h = rw (← p, lt-leb 1 c h)
+
+    pub capacity-high : 4095 < c → false ≡ set-good root s
+    unfolding set-good
+    capacity-high h = rw (← p, and-false (leb 1 c) (leb c 4095) (lt-leb c 4095 h))
+
+    module _ (a : 1 ≤ c) (b : c ≤ 4095) (t : Bool) (q : t ≡ items-good root s) where
+      pub set-broken : t ≡ false → t ≡ set-good root s
+      unfolding set-good items-good
+      set-broken e = e ∙ rw (← p, le-leb 1 c a, le-leb c 4095 b, sym q ∙ e)
+
+      pub set-rest : (u : Bool) → t ≡ true → u ≡ kind-good root s → u ≡ set-good root s
+      unfolding set-good items-good
+      set-rest u e r = r ∙ rw (← p, le-leb 1 c a, le-leb c 4095 b, sym q ∙ e)
