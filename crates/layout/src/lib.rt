@@ -157,7 +157,7 @@ fn item_number(root: &[u16], s: u16, item: u16) -> u16
 }
 
 // The place of an item of set s in the entry.
-fn field_of(root: &[u16], s: u16, item: u16) -> spec::Field
+pub fn field_of(root: &[u16], s: u16, item: u16) -> spec::Field
     requires { ⌜ root-good (now root) ≡ true ⌝ }
     requires { ⌜ 1 ≤ s ⌝ }
     requires { ⌜ s ≤ sets (now root) ⌝ }
