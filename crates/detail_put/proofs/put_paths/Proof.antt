@@ -1,0 +1,29 @@
+use Prim.Native.Nat.{_≤_, _-_, _*_}
+use mathlib.Core.Path.{_≡_}
+use lib.ListN.{length}
+use borrow.Author.Needs.{needs}
+use Rattle.spec.specs.Root.{path-count as paths-of}
+use Rattle.journal.specs.Journal.{Back}
+use Rattle.journal.specs.BackLaws.{back-none}
+use Rattle.detail_put.proofs.Laws.{From, Left, left-start, few, path-within, back-next, paths-next, paths-refused, back-all, paths-end, paths-all}
+use Rattle.detail_put.proofs.put_paths.Statement.{statement}
+use Rattle.detail_put.proofs.put_paths.Tie as tie
+
+abbrev Inv-loop : tie.InvT-loop
+Inv-loop root plan s area₀ jr₀ d r entry passed₀ n₀ i₀ count area jr passed n i =
+    (count ≡ paths-of root s) × (i ≤ count) × (count ≤ 4) × (length area ≡ length area₀) × (length jr ≡ length jr₀) × (length passed ≡ 4)
+    × Back area₀ jr₀ 0 (173 * i) area jr n × (From root s entry r area₀ ≡ Left root s entry r count i area passed)
+
+abbrev μ-loop : tie.MeasureT-loop
+μ-loop root plan s area₀ jr₀ d r entry passed₀ n₀ i₀ count area jr passed n i = count - i
+
+pub put-paths-spec : {M : Type 1} → statement M
+put-paths-spec =
+    tie.close
+    (tie.spec Inv-loop μ-loop (λ c κs. search needs)
+    (λ c. (search needs, search needs, search few, search needs, search needs, search needs, search back-none, search left-start)) (λ c. search needs)
+    (λ c κs. (search needs, (search needs, search needs, search needs, search needs, search needs, search path-within, search needs)))
+    (λ c. search needs) (λ c. search needs) (λ c. search needs) (λ c. search needs) (λ c. search needs) (λ c. search needs)
+    (λ c. (search needs, search needs, search needs, search needs, search needs, search needs, search back-next, paths-next _ _ _ _ _ _ _ _ _ (c .before .before .before .before .before .before .before .before .before .before .before .loop .inv .7) (search needs) (c .before .before .before .before .before .before .before .put-at .result .placing) _ (c .before .before .before .before .before .before .before .put-at .ensures .0) _ (c .before .t .given .1)))
+    (λ c. search needs) (λ c. search needs) (λ c. search needs) (λ c. (search paths-refused, search back-all)) (λ c. search needs) (λ c. search needs)
+    (λ c. (search paths-end, search paths-all)))
