@@ -1,0 +1,1 @@
+// What the contracts of the six calls say, taken together. Theorems only: see specs/.
