@@ -9,23 +9,25 @@ use mathlib.Core.Bool.{Bool, true, false}
 use mathlib.Core.List.{List, [], _∷_, _++_}
 use native.Mathlib.Omega.{arith}
 use borrow.Author.Tests.{eqb-true}
-use lib.Dec.{eqb}
+use lib.Dec.{leb, eqb}
 use lib.ListN.{length, replicate}
 use Rattle.spec.specs.declared.Refusal.{Refusal}
-use Rattle.spec.specs.declared.Refusal.the-variants.{BadRoot, BadLength}
+use Rattle.spec.specs.declared.Refusal.the-variants.{BadRoot, BadLength, NotByCall, NoMode, NotSearched, WrongLength, NoPath, ShortBuffer, NoRecord, KeyChanged}
 use Rattle.spec.specs.declared.Cursor.{Cursor}
-use Rattle.spec.specs.Words.{word}
+use Rattle.spec.specs.Words.{word, lay}
 use Rattle.spec.specs.Outcome.{Outcome, accept, refuse, refused-words, require, _>>=_, open-outcome}
-use Rattle.spec.specs.Root.{root-good, max-sets}
-use Rattle.spec.specs.Layout.{area-length}
+use Rattle.spec.specs.Root.{root-good, max-sets, search-path, item-length}
+use Rattle.spec.specs.Layout.{area-length, view-shape}
 use Rattle.spec.specs.Area.{Area}
-use Rattle.spec.specs.Cursor.{fresh}
-use Rattle.spec.specs.Calls.{Made, Answer, known, made, make, find, get, answer, find-steps, get-steps}
+use Rattle.spec.specs.Master.{find-key}
+use Rattle.spec.specs.Detail.{head-at}
+use Rattle.spec.specs.Cursor.{fresh, nonzero, reading, mode-good, value-good, path-chosen, record-for, readable, current-record}
+use Rattle.spec.specs.Calls.{Made, Done, Answer, answer, known, made, make, named-set, named-cursor, the-detail, entry-size, open-to-change, find-chain, find-on, find-steps, find, get-on, get-steps, get, put-in, put-on, put-steps, put, keeps-all, update-on, update-steps, update, delete-in, delete-on, delete-steps, delete}
 use Rattle.history.specs.Base.{Base, Call, a-find, a-get, a-put, a-update, a-delete, answered, after, new}
 use Rattle.history.specs.Demand.{run-from, run, answers}
 use Rattle.history.specs.DemandAll.{Demand}
 use Rattle.history.specs.Theorem.{any-history}
-use Rattle.contracts.specs.OneOutcome.{Makes}
+use Rattle.contracts.specs.OneOutcome.{Makes, Found, Finds, Got, Gets, Changed, Puts, Updates, Deletes}
 
 -- what the contract of a call says of its outcome: the fields that the call writes by its `ensures`; an area that it is lent to be
 -- read stays
@@ -45,6 +47,141 @@ works-is root b c o w i =
       area = w .area i;
       buffer = w .buffer i;
     }
+
+-- ---- the contracts give it: a find and a get leave the area, only a get writes a buffer
+
+abbrev All : {A : Type 0} → (A → Type 0) → Outcome A → Type 0
+All P (accept x) = P x
+All P (refuse why) = Unit {0}
+
+all-after : {A B : Type 0} (P : B → Type 0) (x : Outcome A) (f : A → Outcome B) → ((y : A) → All P (f y)) → All P (x >>= f)
+all-after P (accept y) f h = h y
+all-after P (refuse why) f h = tt
+
+abbrev Wordless : Done → Type 0
+Wordless d = d .words ≡ []
+
+abbrev Reading : Area → Done → Type 0
+Reading a d = d .area ≡ a
+
+module _ (a : Area) (cs : List Cursor) (s : ℕ) (buffer : List ℕ) (x : Outcome Done) where
+  area-stays : All (Reading a) x → answer a cs s buffer x .area ≡ a
+  unfolding answer
+  area-stays = elim x [ accept d ↦ λ h. h | refuse why ↦ λ h. refl ]
+
+  no-buffer : All Wordless x → answer a cs s [] x .buffer ≡ []
+  unfolding answer
+  no-buffer = elim x [ accept d ↦ λ h. ap (lay [] 0) h | refuse why ↦ λ h. refl ]
+
+module _ (root : List ℕ) (a : Area) (cs : List Cursor) (s : ℕ) where
+  find-reads : (item : ℕ) (key : List ℕ) → All (Reading a) (find-steps root a cs s item key)
+  unfolding find-steps find-on find-chain
+  find-reads item key =
+      all-after _ (named-set root a s) _ (λ v. all-after _ (the-detail v) _ (λ d. all-after _ (named-cursor v cs s) _ (λ _.
+      all-after _ (nonzero (search-path root s item) NotSearched) _ (λ p. all-after _ (require (eqb (length key) (item-length root item)) WrongLength) _ (λ _.
+      all-after _ (find-key (d .path p .to) a key) _ (λ r. all-after _ (nonzero r NoRecord) _ (λ k.
+      all-after _ (head-at (d .shape) (d .path p) a k) _ (λ h. refl))))))))
+
+  find-wordless : (item : ℕ) (key : List ℕ) → All Wordless (find-steps root a cs s item key)
+  unfolding find-steps find-on find-chain
+  find-wordless item key =
+      all-after _ (named-set root a s) _ (λ v. all-after _ (the-detail v) _ (λ d. all-after _ (named-cursor v cs s) _ (λ _.
+      all-after _ (nonzero (search-path root s item) NotSearched) _ (λ p. all-after _ (require (eqb (length key) (item-length root item)) WrongLength) _ (λ _.
+      all-after _ (find-key (d .path p .to) a key) _ (λ r. all-after _ (nonzero r NoRecord) _ (λ k.
+      all-after _ (head-at (d .shape) (d .path p) a k) _ (λ h. refl))))))))
+
+  get-reads : (mode r : ℕ) (key : List ℕ) (room : ℕ) → All (Reading a) (get-steps root a cs s mode r key room)
+  unfolding get-steps get-on
+  get-reads mode r key room =
+      all-after _ (named-set root a s) _ (λ v. all-after _ (named-cursor v cs s) _ (λ c.
+      all-after _ (require (mode-good (reading v mode)) NoMode) _ (λ _. all-after _ (require (value-good (reading v mode) key) WrongLength) _ (λ _.
+      all-after _ (require (path-chosen (reading v mode) c) NoPath) _ (λ _. all-after _ (require (leb (entry-size v) room) ShortBuffer) _ (λ _.
+      all-after _ (record-for (reading v mode) (view-shape v) a c r key) _ (λ k. all-after _ (readable v a (c .path) k) _ (λ _. refl))))))))
+
+  put-wordless : (entry : List ℕ) → All Wordless (put-steps root a cs s entry)
+  unfolding put-steps put-on
+  put-wordless entry =
+      all-after _ (named-set root a s) _ (λ v. all-after _ (named-cursor v cs s) _ (λ c.
+      all-after _ (require (open-to-change v) NotByCall) _ (λ _. all-after _ (require (eqb (length entry) (entry-size v)) WrongLength) _ (λ _.
+      all-after _ (put-in v a entry) _ (λ l. refl)))))
+
+  update-wordless : (entry : List ℕ) → All Wordless (update-steps root a cs s entry)
+  unfolding update-steps update-on
+  update-wordless entry =
+      all-after _ (named-set root a s) _ (λ v. all-after _ (named-cursor v cs s) _ (λ c.
+      all-after _ (require (open-to-change v) NotByCall) _ (λ _. all-after _ (require (eqb (length entry) (entry-size v)) WrongLength) _ (λ _.
+      all-after _ (current-record (view-shape v) a c) _ (λ r. all-after _ (require (keeps-all v a r entry) KeyChanged) _ (λ _. refl))))))
+
+  delete-wordless : All Wordless (delete-steps root a cs s)
+  unfolding delete-steps delete-on
+  delete-wordless =
+      all-after _ (named-set root a s) _ (λ v. all-after _ (named-cursor v cs s) _ (λ c.
+      all-after _ (require (open-to-change v) NotByCall) _ (λ _. all-after _ (current-record (view-shape v) a c) _ (λ r.
+      all-after _ (delete-in v a r) _ (λ b. refl)))))
+
+-- so an outcome that the contract of a call allows, with what the call cannot write, is one of `Works`
+module _ (root : List ℕ) (b : Base) (s : ℕ) where
+  pub finds-work :
+      (item : ℕ) (value : List ℕ) (o : Found) → Finds root (b .area) (b .cursors) s item value o →
+      Works root b (a-find s item value) (record { status = o .status; cursors = o .cursors; passed = o .passed; area = b .area; buffer = [] })
+  unfolding answered find
+  finds-work item value o w =
+      record {
+        status = w .status;
+        cursors = w .cursors;
+        passed = w .passed;
+        area = sym (area-stays (b .area) (b .cursors) s [] _ (find-reads root (b .area) (b .cursors) s item value));
+        buffer = sym (no-buffer (b .area) (b .cursors) s [] _ (find-wordless root (b .area) (b .cursors) s item value));
+      }
+
+  pub gets-work :
+      (mode number : ℕ) (value buffer : List ℕ) (o : Got) → Gets root (b .area) (b .cursors) s mode number value buffer o →
+      Works root b (a-get s mode number value buffer) (record { status = o .status; cursors = o .cursors; passed = o .passed; area = b .area; buffer = o .buffer })
+  unfolding answered get
+  gets-work mode number value buffer o w =
+      record {
+        status = w .status;
+        cursors = w .cursors;
+        passed = w .passed;
+        area = sym (area-stays (b .area) (b .cursors) s buffer _ (get-reads root (b .area) (b .cursors) s mode number value (length buffer)));
+        buffer = w .buffer;
+      }
+
+  abbrev changed : Changed → Answer
+  changed o = record { status = o .status; cursors = o .cursors; passed = o .passed; area = o .area; buffer = [] }
+
+  pub puts-work : (entry : List ℕ) (o : Changed) → Puts root (b .area) (b .cursors) s entry o → Works root b (a-put s entry) (changed o)
+  unfolding answered put Puts
+  puts-work entry o w =
+      record {
+        status = w .status;
+        cursors = w .cursors;
+        passed = w .passed;
+        area = w .area;
+        buffer = sym (no-buffer (b .area) (b .cursors) s [] _ (put-wordless root (b .area) (b .cursors) s entry));
+      }
+
+  pub updates-work : (entry : List ℕ) (o : Changed) → Updates root (b .area) (b .cursors) s entry o → Works root b (a-update s entry) (changed o)
+  unfolding answered update Updates
+  updates-work entry o w =
+      record {
+        status = w .status;
+        cursors = w .cursors;
+        passed = w .passed;
+        area = w .area;
+        buffer = sym (no-buffer (b .area) (b .cursors) s [] _ (update-wordless root (b .area) (b .cursors) s entry));
+      }
+
+  pub deletes-work : (o : Changed) → Deletes root (b .area) (b .cursors) s o → Works root b (a-delete s) (changed o)
+  unfolding answered delete Deletes
+  deletes-work o w =
+      record {
+        status = w .status;
+        cursors = w .cursors;
+        passed = w .passed;
+        area = w .area;
+        buffer = sym (no-buffer (b .area) (b .cursors) s [] _ (delete-wordless root (b .area) (b .cursors) s));
+      }
 
 abbrev pub left : Answer → Base
 left o = record { area = o .area; cursors = o .cursors }
