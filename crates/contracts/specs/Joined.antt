@@ -58,6 +58,10 @@ all-after : {A B : Type 0} (P : B → Type 0) (x : Outcome A) (f : A → Outcome
 all-after P (accept y) f h = h y
 all-after P (refuse why) f h = tt
 
+all-map : {A : Type 0} (P Q : A → Type 0) (x : Outcome A) → ((y : A) → P y → Q y) → All P x → All Q x
+all-map P Q (accept y) f h = f y h
+all-map P Q (refuse why) f h = tt
+
 abbrev Wordless : Done → Type 0
 Wordless d = d .words ≡ []
 
@@ -74,21 +78,13 @@ module _ (a : Area) (cs : List Cursor) (s : ℕ) (buffer : List ℕ) (x : Outcom
   no-buffer = elim x [ accept d ↦ λ h. ap (lay [] 0) h | refuse why ↦ λ h. refl ]
 
 module _ (root : List ℕ) (a : Area) (cs : List Cursor) (s : ℕ) where
-  find-reads : (item : ℕ) (key : List ℕ) → All (Reading a) (find-steps root a cs s item key)
+  find-plain : (item : ℕ) (key : List ℕ) → All (λ d. Reading a d × Wordless d) (find-steps root a cs s item key)
   unfolding find-steps find-on find-chain
-  find-reads item key =
+  find-plain item key =
       all-after _ (named-set root a s) _ (λ v. all-after _ (the-detail v) _ (λ d. all-after _ (named-cursor v cs s) _ (λ _.
       all-after _ (nonzero (search-path root s item) NotSearched) _ (λ p. all-after _ (require (eqb (length key) (item-length root item)) WrongLength) _ (λ _.
       all-after _ (find-key (d .path p .to) a key) _ (λ r. all-after _ (nonzero r NoRecord) _ (λ k.
-      all-after _ (head-at (d .shape) (d .path p) a k) _ (λ h. refl))))))))
-
-  find-wordless : (item : ℕ) (key : List ℕ) → All Wordless (find-steps root a cs s item key)
-  unfolding find-steps find-on find-chain
-  find-wordless item key =
-      all-after _ (named-set root a s) _ (λ v. all-after _ (the-detail v) _ (λ d. all-after _ (named-cursor v cs s) _ (λ _.
-      all-after _ (nonzero (search-path root s item) NotSearched) _ (λ p. all-after _ (require (eqb (length key) (item-length root item)) WrongLength) _ (λ _.
-      all-after _ (find-key (d .path p .to) a key) _ (λ r. all-after _ (nonzero r NoRecord) _ (λ k.
-      all-after _ (head-at (d .shape) (d .path p) a k) _ (λ h. refl))))))))
+      all-after _ (head-at (d .shape) (d .path p) a k) _ (λ h. (refl, refl)))))))))
 
   get-reads : (mode r : ℕ) (key : List ℕ) (room : ℕ) → All (Reading a) (get-steps root a cs s mode r key room)
   unfolding get-steps get-on
@@ -130,8 +126,8 @@ module _ (root : List ℕ) (b : Base) (s : ℕ) where
         status = w .status;
         cursors = w .cursors;
         passed = w .passed;
-        area = sym (area-stays (b .area) (b .cursors) s [] _ (find-reads root (b .area) (b .cursors) s item value));
-        buffer = sym (no-buffer (b .area) (b .cursors) s [] _ (find-wordless root (b .area) (b .cursors) s item value));
+        area = sym (area-stays (b .area) (b .cursors) s [] _ (all-map _ (Reading (b .area)) (find-steps root (b .area) (b .cursors) s item value) (λ d p. p .0) (find-plain root (b .area) (b .cursors) s item value)));
+        buffer = sym (no-buffer (b .area) (b .cursors) s [] _ (all-map _ Wordless (find-steps root (b .area) (b .cursors) s item value) (λ d p. p .1) (find-plain root (b .area) (b .cursors) s item value)));
       }
 
   pub gets-work :
