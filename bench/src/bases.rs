@@ -90,8 +90,7 @@ pub fn smallest() -> Base {
 pub fn sample_four(capacity: u16) -> Base {
     let mut base = sample(capacity);
     base.name = "sample, 4 paths";
-    base.sets[2] =
-        detail(capacity, &[1, 2, 3, 4], &[[1, 1, 2], [2, 2, 0], [4, 3, 0], [5, 4, 0]]);
+    base.sets[2] = detail(capacity, &[1, 2, 3, 4], &[[1, 1, 2], [2, 2, 0], [4, 3, 0], [5, 4, 0]]);
     base.sets.push(master(MANUAL, capacity, &[3]));
     base.sets.push(master(MANUAL, capacity, &[4]));
     base

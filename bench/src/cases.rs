@@ -30,15 +30,37 @@ impl Rows {
 pub enum Calls {
     /// So many times.
     Make(usize),
-    Find { set: u16, item: u16, values: Rows },
+    Find {
+        set: u16,
+        item: u16,
+        values: Rows,
+    },
     /// So many lines read forward, after a find outside the clock.
-    Chain { set: u16, item: u16, value: Vec<u16>, lines: usize },
-    Key { set: u16, values: Rows },
-    Put { set: u16, entries: Rows },
+    Chain {
+        set: u16,
+        item: u16,
+        value: Vec<u16>,
+        lines: usize,
+    },
+    Key {
+        set: u16,
+        values: Rows,
+    },
+    Put {
+        set: u16,
+        entries: Rows,
+    },
     /// The record with this number, over and over.
-    Update { set: u16, record: u32, entries: Rows },
+    Update {
+        set: u16,
+        record: u32,
+        entries: Rows,
+    },
     /// The records with these numbers.
-    Delete { set: u16, records: Vec<u32> },
+    Delete {
+        set: u16,
+        records: Vec<u32>,
+    },
 }
 
 impl Calls {

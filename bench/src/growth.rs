@@ -59,5 +59,5 @@ pub fn print(runs: usize) {
     section("chain length", runs, chain_length());
     section("capacity", runs, capacity());
     section("sets (64 items)", runs, sets());
-    println!("medians of {runs} runs in one process; the sample base, capacity 4,095 where it does not grow");
+    println!("medians of {runs} runs in one process; capacity 4,095 where nothing else is said");
 }

@@ -1,6 +1,6 @@
 //! The benchmark: the engine beside the same work by hand-written Rust and by SQLite.
 //!
-//!     bench [table|growth] [--runs N]          the figures, medians over N runs (15)
+//!     bench [table|growth] [--runs N]          the figures, medians over N runs (51)
 //!     bench profile CASE ROOT SIDE BATCHES     one case on one side, for a profiler
 //!
 //! A bad command line gets one line on stderr and exit 2.
@@ -28,7 +28,8 @@ enum Command {
 }
 
 fn main() -> ExitCode {
-    let args: Vec<String> = std::env::args_os().skip(1).map(|a| a.to_string_lossy().into()).collect();
+    let args = std::env::args_os().skip(1).map(|arg| arg.to_string_lossy().into_owned());
+    let args: Vec<String> = args.collect();
     let words: Vec<&str> = args.iter().map(String::as_str).collect();
     match read_command(&words) {
         Err(why) => {
@@ -49,8 +50,8 @@ fn main() -> ExitCode {
 
 fn read_command(words: &[&str]) -> Result<Command, String> {
     match words {
-        [] | ["table"] => Ok(Command::Table { runs: 15 }),
-        ["growth"] => Ok(Command::Growth { runs: 15 }),
+        [] | ["table"] => Ok(Command::Table { runs: 51 }),
+        ["growth"] => Ok(Command::Growth { runs: 51 }),
         ["--runs", count] | ["table", "--runs", count] => {
             Ok(Command::Table { runs: number("--runs", count)? })
         }
@@ -67,6 +68,7 @@ fn read_command(words: &[&str]) -> Result<Command, String> {
             let batches = number("the count of batches", batches)?;
             Ok(Command::Profile { case: Box::new(case), plain, batches })
         }
+        [.., "--runs"] => Err("--runs wants a number from 1".into()),
         ["profile", ..] => Err("profile wants CASE ROOT SIDE BATCHES".into()),
         other => Err(format!("no command {}: it is table, growth or profile", other.join(" "))),
     }
@@ -90,14 +92,13 @@ pub fn digits(ns: f64) -> String {
 pub const HEADS: &str = " engine ns |   Rust ns | of Rust |  SQLite ns | times faster";
 
 pub fn columns(figures: &Figures) -> String {
-    let Figures { engine, plain, sqlite } = figures;
-    let of_rust = engine / plain;
+    let Figures { engine, plain, of_plain, sqlite } = figures;
     let (sqlite, faster) = match sqlite {
-        Some(sqlite) => (digits(*sqlite), digits(sqlite / engine)),
+        Some(beside) => (digits(beside.ns), digits(beside.times_faster)),
         None => ("-".into(), "-".into()),
     };
     let (engine, plain) = (digits(*engine), digits(*plain));
-    format!(" {engine:>9} | {plain:>9} | {of_rust:>7.2} | {sqlite:>10} | {faster:>12}")
+    format!(" {engine:>9} | {plain:>9} | {of_plain:>7.2} | {sqlite:>10} | {faster:>12}")
 }
 
 fn table(runs: usize) {

@@ -365,11 +365,7 @@ fn put_master(area: &mut [u16], master: &Master, entry: &[u16]) -> Result<(u32, 
 }
 
 /// −95, then the put; a refusal on any path is undone by the journal.
-fn put_line(
-    area: &mut [u16],
-    named: &Named,
-    entry: &[u16],
-) -> Result<(u32, [u16; 4]), Refusal> {
+fn put_line(area: &mut [u16], named: &Named, entry: &[u16]) -> Result<(u32, [u16; 4]), Refusal> {
     let shape = named.root.shape(named.set);
     if entry.len() != shape.entry {
         return Err(BAD_LENGTH);
@@ -421,8 +417,9 @@ fn update_entry(
         let field = named.root.field(named.set, item);
         field.of(old) == field.of(entry)
     };
-    let fixed = stated.paths().iter().all(|&[_, search, sort]| kept(search) && (sort == 0 || kept(sort)));
-    if !fixed || named.is_master() && !kept(stated.key()) {
+    let on_path = |&[_, search, sort]: &[u16; 3]| kept(search) && (sort == 0 || kept(sort));
+    let keyed = !named.is_master() || kept(stated.key());
+    if !keyed || !stated.paths().iter().all(on_path) {
         return Err(FIXED_ITEM);
     }
     let at = shape.at(record) + shape.front;

@@ -88,6 +88,16 @@ fn columns(base: &Base, set: u16) -> String {
     names.join(", ")
 }
 
+fn insert(base: &Base, set: u16) -> String {
+    let marks = vec!["?"; base.set(set).items.len()].join(", ");
+    format!("INSERT INTO s{set} ({}) VALUES ({marks})", columns(base, set))
+}
+
+fn update(base: &Base, set: u16) -> String {
+    let others = changeable(base, set).map(|(_, item)| format!("i{item} = ?"));
+    format!("UPDATE s{set} SET {} WHERE id = ?", others.collect::<Vec<_>>().join(", "))
+}
+
 /// The tables and indexes.
 fn schema(base: &Base) -> String {
     let mut sql = String::from("PRAGMA foreign_keys = ON;");
@@ -136,15 +146,9 @@ impl Store {
     fn prepare(&self, sql: &str) -> Statement {
         let text = CString::new(sql).expect("no zeros in SQL");
         let mut made = null_mut();
-        let done =
-            unsafe { sqlite3_prepare_v2(self.0, text.as_ptr(), -1, &mut made, null_mut()) };
+        let done = unsafe { sqlite3_prepare_v2(self.0, text.as_ptr(), -1, &mut made, null_mut()) };
         assert_eq!(done, OK, "SQLite refuses {sql}");
         Statement(made)
-    }
-
-    fn insert_into(&self, base: &Base, set: u16) -> Statement {
-        let marks = vec!["?"; base.set(set).items.len()].join(", ");
-        self.prepare(&format!("INSERT INTO s{set} ({}) VALUES ({marks})", columns(base, set)))
     }
 }
 
@@ -215,10 +219,20 @@ fn bytes(row: &Row) -> Vec<u8> {
 enum Batch {
     Make(usize),
     /// One row expected for each; `set` if its columns are read.
-    Select { wanted: Vec<Row>, set: Option<u16> },
-    Chain { wanted: Row, lines: usize, set: u16 },
+    Select {
+        wanted: Vec<Row>,
+        set: Option<u16>,
+    },
+    Chain {
+        wanted: Row,
+        lines: usize,
+        set: u16,
+    },
     /// The code that each step must answer.
-    Change { rows: Vec<Row>, code: c_int },
+    Change {
+        rows: Vec<Row>,
+        code: c_int,
+    },
 }
 
 pub struct Stand<'c> {
@@ -246,6 +260,12 @@ fn updated(base: &Base, set: u16, entry: &[u16], record: u32) -> Row {
     bound
 }
 
+/// A chain in its order: these columns of the lines with a value of a search item.
+fn chain(base: &Base, set: u16, item: u16, columns: &str) -> String {
+    let sort = base.set(set).paths[0][2];
+    format!("SELECT {columns} FROM s{set} WHERE i{item} = ? ORDER BY i{sort}, id")
+}
+
 /// The statement for a case's calls, and the values bound to it. `None`: SQLite has nothing like
 /// it (a set that is not there is no prepared statement).
 fn plan(case: &Case, store: &Store) -> Option<(Batch, Option<Statement>)> {
@@ -257,12 +277,10 @@ fn plan(case: &Case, store: &Store) -> Option<(Batch, Option<Statement>)> {
         Calls::Put { set, .. } if usize::from(*set) > base.sets.len() => return None,
         Calls::Put { set, entries } => {
             let code = if case.condition == 0 { DONE } else { CONSTRAINT };
-            let batch = Batch::Change { rows: rows(base, *set, entries), code };
-            return Some((batch, Some(store.insert_into(base, *set))));
+            (Batch::Change { rows: rows(base, *set, entries), code }, insert(base, *set))
         }
         Calls::Find { set, item, values } => {
-            let sort = base.set(*set).paths[0][2];
-            let sql = format!("SELECT id FROM s{set} WHERE i{item} = ? ORDER BY i{sort}, id LIMIT 1");
+            let sql = chain(base, *set, *item, "id") + " LIMIT 1";
             (Batch::Select { wanted: keys(*item, values), set: None }, sql)
         }
         Calls::Key { set, values } => {
@@ -271,17 +289,12 @@ fn plan(case: &Case, store: &Store) -> Option<(Batch, Option<Statement>)> {
             (Batch::Select { wanted: keys(item, values), set: Some(*set) }, sql)
         }
         Calls::Chain { set, item, value, lines } => {
-            let (columns, sort) = (columns(base, *set), base.set(*set).paths[0][2]);
-            let order = format!("ORDER BY i{sort}, id");
-            let sql = format!("SELECT {columns} FROM s{set} WHERE i{item} = ? {order}");
+            let sql = chain(base, *set, *item, &columns(base, *set));
             (Batch::Chain { wanted: key(*item, value), lines: *lines, set: *set }, sql)
         }
         Calls::Update { set, record, entries } => {
-            let others = changeable(base, *set).map(|(_, item)| format!("i{item} = ?"));
-            let others = others.collect::<Vec<_>>().join(", ");
             let rows = entries.iter().map(|entry| updated(base, *set, entry, *record)).collect();
-            let sql = format!("UPDATE s{set} SET {others} WHERE id = ?");
-            (Batch::Change { rows, code: DONE }, sql)
+            (Batch::Change { rows, code: DONE }, update(base, *set))
         }
         Calls::Delete { set, records } => {
             let rows = records.iter().map(|&id| vec![Value::Number(id.into())]).collect();
@@ -298,7 +311,7 @@ impl<'c> Stand<'c> {
         let (batch, statement) = plan(case, &store)?;
         store.do_all("BEGIN");
         let inserts: Vec<Option<Statement>> = (1..=base.sets.len() as u16)
-            .map(|set| (base.set(set).kind != AUTOMATIC).then(|| store.insert_into(base, set)))
+            .map(|set| (base.set(set).kind != AUTOMATIC).then(|| store.prepare(&insert(base, set))))
             .collect();
         for (set, entry) in &case.before {
             let insert = inserts[usize::from(*set) - 1].as_ref().expect("no automatic master");

@@ -1,6 +1,6 @@
 //! A case set up on one side: batches of its calls, timed, with the area put back between them.
 
-use crate::cases::{Calls, Case};
+use crate::cases::{Calls, Case, Rows};
 use crate::plain::Wanted;
 use crate::side::{Host, Side};
 use std::marker::PhantomData;
@@ -26,53 +26,49 @@ pub struct Stand<'c, S> {
     side: PhantomData<S>,
 }
 
+/// Makes a call with each row; `seen` looks at the host after each.
+fn each(
+    host: &mut Host,
+    rows: &Rows,
+    mut seen: impl FnMut(&Host),
+    call: impl Fn(&mut Host, &[u16]),
+) {
+    for row in rows.iter() {
+        call(host, row);
+        seen(host);
+    }
+}
+
 /// Makes the calls of a batch; `seen` looks at the host after each.
 fn work<S: Side>(host: &mut Host, calls: &Calls, mut seen: impl FnMut(&Host)) {
+    let current = |set: u16| 4 * (usize::from(set) - 1);
     match calls {
-        Calls::Make(times) => {
-            for _ in 0..*times {
-                S::make(host);
-                seen(host);
-            }
-        }
+        Calls::Make(times) => (0..*times).for_each(|_| {
+            S::make(host);
+            seen(host);
+        }),
         Calls::Find { set, item, values } => {
-            for value in values.iter() {
-                S::find(host, *set, *item, value);
-                seen(host);
-            }
+            each(host, values, seen, |host, value| S::find(host, *set, *item, value));
         }
-        Calls::Chain { set, lines, .. } => {
-            for _ in 0..*lines {
-                S::get(host, *set, Wanted { mode: 5, record: 0, value: &[] });
-                seen(host);
-            }
-        }
-        Calls::Key { set, values } => {
-            for value in values.iter() {
-                S::get(host, *set, Wanted { mode: 7, record: 0, value });
-                seen(host);
-            }
-        }
+        Calls::Chain { set, lines, .. } => (0..*lines).for_each(|_| {
+            S::get(host, *set, Wanted { mode: 5, record: 0, value: &[] });
+            seen(host);
+        }),
+        Calls::Key { set, values } => each(host, values, seen, |host, value| {
+            S::get(host, *set, Wanted { mode: 7, record: 0, value });
+        }),
         Calls::Put { set, entries } => {
-            for entry in entries.iter() {
-                S::put(host, *set, entry);
-                seen(host);
-            }
+            each(host, entries, seen, |host, entry| S::put(host, *set, entry));
         }
         Calls::Update { set, record, entries } => {
-            host.cursors[4 * (usize::from(*set) - 1)] = *record;
-            for entry in entries.iter() {
-                S::update(host, *set, entry);
-                seen(host);
-            }
+            host.cursors[current(*set)] = *record;
+            each(host, entries, seen, |host, entry| S::update(host, *set, entry));
         }
-        Calls::Delete { set, records } => {
-            for record in records {
-                host.cursors[4 * (usize::from(*set) - 1)] = *record;
-                S::delete(host, *set);
-                seen(host);
-            }
-        }
+        Calls::Delete { set, records } => records.iter().for_each(|record| {
+            host.cursors[current(*set)] = *record;
+            S::delete(host, *set);
+            seen(host);
+        }),
     }
 }
 

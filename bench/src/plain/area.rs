@@ -4,7 +4,7 @@
 use super::root::{Field, Shape};
 use super::{Refusal, BROKEN};
 
-/// Count, last, first: a chain head or the five synonym words (a secondary's are 0, previous, next).
+/// Count, last, first: a chain head, or the synonym words (a secondary's are 0, previous, next).
 #[derive(Clone, Copy)]
 pub struct Head {
     pub count: u16,
@@ -99,7 +99,8 @@ fn unused_between(area: &[u16], shape: &Shape, from: u32, to: u32) -> Option<u32
     let map = &area[shape.start + 2..shape.records];
     // Bits before `from` count as ones; what is found beyond `to` is none.
     let mut seen = !(0xFFFF >> (first % 16));
-    for (index, word) in map.iter().enumerate().take(last as usize / 16 + 1).skip(first as usize / 16) {
+    let words = map.iter().enumerate().take(last as usize / 16 + 1);
+    for (index, word) in words.skip(first as usize / 16) {
         let ones = (word | seen).leading_ones();
         if ones < 16 {
             let bit = index as u32 * 16 + ones;

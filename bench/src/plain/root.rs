@@ -112,8 +112,8 @@ impl<'r> Root<'r> {
         let (&[item_count, set_count], rest) = words.split_first_chunk()?;
         hold((1..=64).contains(&item_count) && (1..=16).contains(&set_count))?;
         let (items, sets) = rest.split_at_checked(2 * usize::from(item_count))?;
-        let (items, (sets, further)) = (items.as_chunks().0, sets.as_chunks().0.split_at_checked(usize::from(set_count))?);
-        hold(further.is_empty() && words.len() == 2 + 2 * items.len() + 33 * sets.len())?;
+        let (items, (sets, further)) = (items.as_chunks().0, sets.as_chunks());
+        hold(sets.len() == usize::from(set_count) && further.is_empty())?;
         hold(items.iter().all(good_item))?;
         let (entries, leads, starts) = ([0; 16], [0; 16], [0; 17]);
         let mut root = Root { items, sets, entries, leads, starts, heads: [[0; 4]; 16] };
