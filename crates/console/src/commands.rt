@@ -206,9 +206,7 @@ fn replace(
     d: Desk,
 ) -> Desk {
     if code == 33 {
-        let mut e = d;
-        e.going = false;
-        return e;
+        return d.left();
     }
     if is_named(line, from) {
         let name = given(line, from);

@@ -13,6 +13,15 @@ pub struct Desk {
     pub going: bool,
 }
 
+impl Desk {
+    // The desk that is left.
+    pub fn left(self) -> Desk {
+        let mut d = self;
+        d.going = false;
+        d
+    }
+}
+
 // The desk over a root and an area of these lengths, with fresh cursors.
 pub fn fresh_desk(root: usize, area: usize) -> Desk {
     Desk {

@@ -130,9 +130,16 @@ fn serve(source: Source, root: &mut [u16], area: &mut [u16], spare: &mut [u16], 
         say(b"the line is longer than 4096 characters; nothing was done\n");
         return d;
     }
-    let mut e = d;
-    e.going = false;
-    e
+    ended(source, d)
+}
+
+// No line is left. A terminal that showed the sign for one gets its line ended.
+fn ended(source: Source, d: Desk) -> Desk {
+    if source.script {
+        return d.left();
+    }
+    say(b"\n");
+    d.left()
 }
 
 fn run(source: Source, root: &mut [u16], area: &mut [u16], spare: &mut [u16]) {
