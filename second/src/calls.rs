@@ -136,7 +136,7 @@ impl Answer {
 }
 
 /// Numbers, each after a blank.
-struct Words<'w, T>(&'w [T]);
+pub struct Words<'w, T>(pub &'w [T]);
 
 impl<T: Display> Display for Words<'_, T> {
     fn fmt(&self, f: &mut Formatter) -> fmt::Result {

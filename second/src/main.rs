@@ -4,11 +4,13 @@
 //!     second run --calls N --seed S [--seconds T]     random sequences (exit 1 on a difference)
 //!     second rerun FILE                               shows both answers to each call of a file
 //!     second faults                                   what a careless host may do
+//!     second cases SCRIPT                             worked cases on the model (exit 1 on a difference)
 //!
 //! A bad command line gets one line on stderr and exit 2.
 
 mod caller;
 mod calls;
+mod cases;
 mod damage;
 mod draw;
 mod edges;
@@ -26,6 +28,7 @@ mod tally;
 mod trial;
 mod watch;
 
+use cases::Script;
 use replay::Vectors;
 use run::Options;
 use std::process::ExitCode;
@@ -36,6 +39,7 @@ enum Command {
     Run(Options),
     Rerun(Vec<calls::Step>),
     Faults,
+    Cases(Script),
 }
 
 fn main() -> ExitCode {
@@ -56,7 +60,8 @@ fn main() -> ExitCode {
 }
 
 fn read_command(args: &[String]) -> Result<Command, String> {
-    let (name, rest) = args.split_first().ok_or("wants a command: replay, run, rerun or faults")?;
+    const COMMANDS: &str = "replay, run, rerun, faults or cases";
+    let (name, rest) = args.split_first().ok_or_else(|| format!("wants a command: {COMMANDS}"))?;
     match (name.as_str(), rest) {
         ("replay", []) => Err("replay wants files".into()),
         ("replay", files) => {
@@ -68,7 +73,9 @@ fn read_command(args: &[String]) -> Result<Command, String> {
         ("rerun", _) => Err("rerun wants one file".into()),
         ("faults", []) => Ok(Command::Faults),
         ("faults", _) => Err("faults wants nothing further".into()),
-        _ => Err(format!("no command {name}: it is replay, run, rerun or faults")),
+        ("cases", [script]) => Ok(Command::Cases(Script::load(script)?)),
+        ("cases", _) => Err("cases wants one script".into()),
+        _ => Err(format!("no command {name}: it is {COMMANDS}")),
     }
 }
 
@@ -100,6 +107,7 @@ fn work(command: &Command) -> bool {
         Command::Replay(vectors) => vectors.iter().all(Vectors::replay),
         Command::Run(options) => run::run(options),
         Command::Rerun(steps) => replay::rerun(steps),
+        Command::Cases(script) => script.work(),
         Command::Faults => match faults::faults() {
             Ok(made) => {
                 println!("faults: {made} calls, all as they must be");
