@@ -2,22 +2,13 @@
 ghost use mathlib.Core.Path.{_≡_};
 ghost use lib.ListN.{length};
 use libc::STDOUT_FILENO;
+use screen::say;
+use screen::say_long;
+use screen::say_word;
 use session::Answer;
 use session::Session;
 use spec::Cursor;
 use words::word;
-
-fn say(text: &[u8]) {
-    io::write_all(STDOUT_FILENO, text);
-}
-
-fn say_long(n: u32) {
-    io::print_decimal(STDOUT_FILENO, n as u64);
-}
-
-fn say_word(n: u16) {
-    say_long(n as u32);
-}
 
 fn say_place(n: usize) {
     io::print_decimal(STDOUT_FILENO, n as u64);
