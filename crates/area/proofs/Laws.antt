@@ -1,11 +1,11 @@
 -- Laws of the area's readers and writers. Assumes nothing.
-use Prim.Native.Nat.{ℕ, _+_, _-_, _*_, _≤_, _<_, _^_}
+use Prim.Native.Nat.{ℕ, _+_, _-_, _*_, _%_, _≤_, _<_, _^_}
 use mathlib.Core.Path.{_≡_}
 use mathlib.Core.Bool.{Bool, true, false, _&&_, _||_, not}
 use mathlib.Core.List.{List}
 use native.Mathlib.Nat.{add-zero, mul-le-mul-left}
 use native.Mathlib.Omega.{arith}
-use borrow.Author.Tests.{le-leb, lt-leb, ne-eqb}
+use borrow.Author.Tests.{le-leb, lt-leb, ne-eqb, eqb-true}
 use lib.Dec.{leb, eqb}
 use lib.ListN.{getD, set, take, drop, replicate}
 use lib.Seq.{sets}
@@ -19,6 +19,7 @@ use Rattle.spec.specs.declared.Links.{Links}
 use Rattle.spec.specs.Outcome.{accept, refuse}
 use Rattle.spec.specs.Words.{long, long-words}
 use Rattle.spec.specs.Area.{map-place, map-bit, bit-of, with-bit, without-bit, live, go-live, go-unused, place, peek, peek-link, peek-part, poke, poke-link, poke-part, copy-part, mend, blank, entry-at, value-at, put-entry-at, mark, freed, set-mark, set-freed, read-head, peek-links, read-links, synonyms, synonym-count, set-synonyms}
+use Rattle.area.specs.MapLaws.{Alike, alike}
 use Rattle.area.specs.AreaLaws.{read-good, read-bad, synonym-good, synonym-bad}
 
 -- ---- a product of a record's number and a record's words
@@ -42,6 +43,14 @@ module _ (s : Shape) (a : List ℕ) (r m w p : ℕ) (e : m ≡ map-place s r) (q
   pub go-unused-is : (a′ : List ℕ) (v : ℕ) → v ≡ without-bit w p → a′ ≡ set a m v → a′ ≡ go-unused s a r
   unfolding go-unused
   go-unused-is a′ v h k = rw (← e, ← q, ← t, ← h) k
+
+-- a word of the map compared with all ones, or with none
+module _ (s : Shape) (a : List ℕ) (r m w : ℕ) (on : Bool) (h : (r - 1) % 16 ≡ 0) (e : m ≡ map-place s r) (q : w ≡ getD a m 0) where
+  pub alike-ones : on ≡ true → eqb w 65535 ≡ true → Alike s a r on
+  alike-ones t k = alike s a r w on h (rw (← e) q) (rw t (eqb-true w 65535 k))
+
+  pub alike-zeros : on ≡ false → eqb w 0 ≡ true → Alike s a r on
+  alike-zeros t k = alike s a r w on h (rw (← e) q) (rw t (eqb-true w 0 k))
 
 pub follow-none : (r : ℕ) (b : Bool) → r ≡ 0 → true ≡ (eqb r 0 || b)
 follow-none r b e = rw e

@@ -2,13 +2,14 @@
 // against the rules of answer 18. A function that writes keeps what it overwrites in the journal and hands the journal's count
 // back.
 ghost use mathlib.Core.Path.{_≡_};
-ghost use mathlib.Core.Bool.{_||_, _&&_, not};
+ghost use mathlib.Core.Bool.{true, _||_, _&&_, not};
 ghost use Prim.Native.Nat.{_+_, _-_, _*_, _≤_, _<_, _^_};
 ghost use lib.ListN.{length};
 ghost use lib.Dec.{eqb, leb};
 ghost use Rattle.spec.specs.Area.{map-place, map-bit, live as live-in, go-live, go-unused, place as place-of, peek as peek-in, peek-link as peek-link-in, peek-part as peek-part-in, poke as poke-in, poke-link as poke-link-in, mend as mend-in, blank as blank-in, copy-part, entry-at as entry-in, value-at as value-in, put-entry-at, mark as mark-in, freed as freed-in, set-mark as mark-set, set-freed as freed-set, read-head as head-in, read-links as links-in, peek-links as links-peeked, synonyms as synonyms-in, set-synonyms as synonyms-set};
 ghost use Rattle.journal.specs.Journal.{Back};
 ghost use Rattle.area.specs.Answers.{head-out, links-out};
+ghost use Rattle.area.specs.MapLaws.{Alike};
 use journal::store;
 use journal::store_long;
 use journal::store_moved;
@@ -75,6 +76,20 @@ pub fn live(area: &[u16], s: Shape, r: u32) -> bool
 {
     let w = word(area, map_word(s, r));
     bit_set(w, map_bit_of(r))
+}
+
+// "one bit per record, 1 = live, record 1 in the highest bit of the first word": whether record r is the first of a word of the
+// map whose 16 records are all live, or all unused. A search passes such a word at once.
+pub fn word_alike(area: &[u16], s: Shape, r: u32, on: bool) -> bool
+    requires { ⌜ 1 ≤ r ⌝ }
+    ensures { λ b. ⌜ (b ≡ true → Alike s (now (area .entry)) r on) ⌝ }
+{
+    if (r - 1) % 16 == 0 {
+        let w = word(area, map_word(s, r));
+        if on { w == 65535 } else { w == 0 }
+    } else {
+        false
+    }
 }
 
 // Whether a link leads to a live record, or nowhere: "follows one to an unused record" is answer 18.

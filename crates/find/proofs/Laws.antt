@@ -24,10 +24,11 @@ use Rattle.spec.specs.Follow.{goes, stops, taken, other, passes, fails}
 use Rattle.area.specs.declared.HeadRead.{HeadRead}
 use Rattle.area.specs.declared.HeadRead.the-variants.{Whole, Broken as Torn}
 use Rattle.area.specs.Answers.{head-out}
+use Rattle.area.specs.MapLaws.{Alike}
 use Rattle.area.specs.AreaLaws.{head-whole, head-broken}
 use Rattle.find.specs.declared.Num.{Num}
 use Rattle.find.specs.declared.Num.the-variants.{Good, Broken as Lost}
-use Rattle.find.specs.Answers.{num-out}
+use Rattle.find.specs.Answers.{num-out, Full}
 use Rattle.find.specs.FindLaws.{num-good, num-broken, follow-live, follow-unused, wrapped-high}
 
 -- ---- the number of a key's words
@@ -197,7 +198,34 @@ module _ (s : Shape) (a : List ℕ) where
   unused-next zero r z e = absurd (z refl)
   unused-next (suc n) r z e = taken _ _ e (rw sub-one refl)
 
+  -- k + 1 live records, none of them past the capacity
+  unused-run :
+      (k n r : ℕ) → k < n → r + k ≤ s .cap → ((j : ℕ) → j ≤ k → live s a (r + j) ≡ true) →
+      unused-from s a n r ≡ unused-from s a (n - suc k) (next-up (s .cap) (r + k))
+  unused-run zero n r h c l =
+      let e : r ≡ r + 0 = omega arith in
+      ap (unused-from s a n) e ∙ unused-next n (r + 0) (λ z. omega arith) (l 0 (omega arith))
+  unused-run (suc k) n r h c l =
+      let e : next-up (s .cap) (r + k) ≡ r + suc k = rw (lt-ltb (r + k) (s .cap) (omega arith)) (omega arith) in
+      let d : n - suc k - 1 ≡ n - suc (suc k) = omega arith in
+      unused-run k n r (omega arith) (omega arith) (λ j q. l j (omega arith)) ∙ ap (unused-from s a (n - suc k)) e
+      ∙ unused-next (n - suc k) (r + suc k) (λ z. omega arith) (l (suc k) (omega arith))
+      ∙ ap (λ m. unused-from s a m (next-up (s .cap) (r + suc k))) d
+
+pub full-is :
+    (s : Shape) (a : List ℕ) (n r : ℕ) (b : Bool) → 16 ≤ n → r + 15 ≤ s .cap → s .cap < 2 ^ 16 → (b ≡ true → Alike s a r true) → b ≡ true →
+    Full s a n r
+full-is s a n r b h c d f u = record { many = h; within = c; small = omega arith; alike = f u }
+
 module _ (s : Shape) (a : List ℕ) (n r left at : ℕ) (i : unused-from s a n r ≡ unused-from s a left at) where
+  pub up-word :
+      (b : Bool) (x : ℕ) → (b ≡ true → Full s a left at) → b ≡ true → x ≡ next-up (s .cap) (at + 15) →
+      unused-from s a n r ≡ unused-from s a (left - 16) x
+  up-word b x f u q =
+      let w : Full s a left at = f u in
+      let h : 16 ≤ left = w .many in
+      rw q (i ∙ unused-run s a 15 left at (omega arith) (w .within) (λ j l. w .alike .all j (omega arith)))
+
   pub up-none : left ≡ 0 → 0 ≡ unused-from s a n r
   unfolding unused-from
   up-none z = sym (i ∙ rw z refl)

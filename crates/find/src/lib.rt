@@ -1,17 +1,18 @@
 // "Master steps", the readings: the primary address, find along the synonym chain, the search for an unused record, and what a
 // put and a delete read before they write.
 ghost use mathlib.Core.Path.{_≡_};
-ghost use mathlib.Core.Bool.{cond};
+ghost use mathlib.Core.Bool.{true, cond};
 ghost use Prim.Native.Nat.{_+_, _-_, _*_, _%_, _≤_, _<_, _^_};
 ghost use lib.ListN.{length};
 ghost use Rattle.spec.specs.Words.{same as same-words};
 ghost use Rattle.spec.specs.Master.{key-number, address as address-of, key-at as key-in, primary-of as primary-in, find-along as found-along, find-primary as found-primary, find-key as found-key, next-up as up-from, unused-from as unused-in, last-primary as last-primary-in, named-by as named-in, no-lines as lines-none, lowered as lowered-in};
-ghost use Rattle.find.specs.Answers.{num-out, lowered-out, none-out, Positive};
+ghost use Rattle.find.specs.Answers.{num-out, lowered-out, none-out, Positive, Full};
 use area::HeadRead;
 use area::live;
 use area::read_head;
 use area::synonyms;
 use area::value_at;
+use area::word_alike;
 use spec::Head;
 use spec::Lowered;
 use spec::Master;
@@ -169,7 +170,22 @@ fn next_up(cap: u16, r: u32) -> u32
     if r < (cap as u32) { r + 1 } else { 1 }
 }
 
-// "the first unused record going up from h, wrapping past C to 1"; 0 where none of n is unused.
+// Whether the n records from r on begin with a word of the map, all of them within the capacity and live.
+fn word_full(area: &[u16], s: Shape, n: u16, r: u32) -> bool
+    requires { ⌜ 1 ≤ r ⌝ }
+    ensures { λ b. ⌜ (b ≡ true → Full s (now (area .entry)) n r) ⌝ }
+{
+    if n < 16 {
+        return false;
+    }
+    if (s.cap as u64) < (r as u64) + 15 {
+        return false;
+    }
+    word_alike(area, s, r, true)
+}
+
+// "the first unused record going up from h, wrapping past C to 1"; 0 where none of n is unused. A full word of the map is passed
+// at once: a nearly full master has long runs of them.
 pub fn unused_from(area: &[u16], s: Shape, n: u16, r: u32) -> u32
     requires { ⌜ 1 ≤ r ⌝ }
     ensures { λ f. ⌜ f ≡ unused-in s (now (area .entry)) n r ⌝ }
@@ -177,7 +193,10 @@ pub fn unused_from(area: &[u16], s: Shape, n: u16, r: u32) -> u32
     let mut left = n;
     let mut at = r;
     while left != 0 {
-        if live(area, s, at) {
+        if word_full(area, s, left, at) {
+            at = next_up(s.cap, at + 15);
+            left -= 16;
+        } else if live(area, s, at) {
             at = next_up(s.cap, at);
             left -= 1;
         } else {
