@@ -19,6 +19,7 @@ use Rattle.spec.specs.Area.{live, read, follow}
 use Rattle.spec.specs.Master.{find-key}
 use Rattle.spec.specs.Cursor.{Reading as Read-by, by-number, along, by-key, no-mode, readings, reading, mode-good, value-good, path-chosen, nonzero, current-record, live-above, live-down, given-record, saved-record, keyed-record, numbered-record, chained-record, record-for, current, above, below, given, forward, backward}
 use Rattle.spec.specs.Follow.{goes, stops, taken, other, passes, fails}
+use Rattle.area.specs.MapLaws.{Alike}
 use Rattle.area.specs.AreaLaws.{Then, then-bind, then-told, read-good, read-bad}
 use Rattle.find.specs.declared.Num.{Num}
 use Rattle.find.specs.declared.Num.the-variants.{Good, Broken as Lost}
@@ -34,7 +35,7 @@ use Rattle.reads.specs.declared.Along.{Along}
 use Rattle.reads.specs.declared.Along.the-variants.{Forward, Backward}
 use Rattle.reads.specs.declared.Reading.{Reading}
 use Rattle.reads.specs.declared.Reading.the-variants.{Numbered, Chained, Keyed, NoMode}
-use Rattle.reads.specs.Answers.{way-of, number-of, along-of, of-master, of-detail, asked-record}
+use Rattle.reads.specs.Answers.{way-of, number-of, along-of, of-master, of-detail, asked-record, EmptyAbove, EmptyDown}
 
 -- ---- the get modes
 module _ (mode kind : ℕ) where
@@ -123,6 +124,24 @@ module _ (s : Shape) (a : List ℕ) where
   above-turn n m r h true e = rw h (taken _ _ (sym e) refl)
   above-turn n m r h false e = rw h (other _ _ (sym e) refl)
 
+  module _ (r : ℕ) (b : Bool) where
+    pub empty-above : r + 16 ≤ s .cap → (b ≡ true → Alike s a (r + 1) false) → b ≡ true → EmptyAbove s a r
+    empty-above h f u = record { within = h; alike = f u }
+
+    pub empty-down : 16 ≤ r → (b ≡ true → Alike s a (r - 15) false) → b ≡ true → EmptyDown s a r
+    empty-down h f u = record { many = h; alike = f u }
+
+  -- k unused records above r
+  above-run :
+      (k r : ℕ) → r + k ≤ s .cap → ((j : ℕ) → j < k → live s a (r + 1 + j) ≡ false) →
+      live-above s a (s .cap - r) r ≡ live-above s a (s .cap - (r + k)) (r + k)
+  above-run zero r h l = ap (λ x. live-above s a (s .cap - x) x) (omega arith)
+  above-run (suc k) r h l =
+      let d : r + k + 1 ≡ r + 1 + k = omega arith in
+      let u : false ≡ live s a (r + k + 1) = sym (ap (live s a) d ∙ l k (omega arith)) in
+      above-run k r (omega arith) (λ j q. l j (omega arith)) ∙ above-turn (s .cap - (r + k)) (s .cap - (r + k + 1)) (r + k) (omega arith) false u
+      ∙ ap (λ x. live-above s a (s .cap - x) x) (omega arith)
+
   pub above-start : (from : ℕ) → live-above s a (s .cap - from) from ≡ live-above s a (s .cap - from) from
   above-start from = refl
 
@@ -130,6 +149,10 @@ module _ (s : Shape) (a : List ℕ) where
     pub above-end : s .cap ≤ r → 0 ≡ live-above s a (s .cap - from) from
     unfolding live-above
     above-end h = let z : s .cap - r ≡ 0 = omega arith in sym (e ∙ ap (λ n. live-above s a n r) z)
+
+    pub above-word :
+        (b : Bool) → (b ≡ true → EmptyAbove s a r) → b ≡ true → live-above s a (s .cap - from) from ≡ live-above s a (s .cap - (r + 16)) (r + 16)
+    above-word b f u = e ∙ above-run 16 r (f u .within) (λ j q. f u .alike .all j q)
 
     module _ (h : r < s .cap) (b : Bool) (l : b ≡ live s a (r + 1)) where
       pub above-found : b ≡ true → r + 1 ≡ live-above s a (s .cap - from) from
@@ -147,7 +170,20 @@ module _ (s : Shape) (a : List ℕ) where
   down-turn n m h true e = rw h (taken _ _ (sym (rw h at e)) refl)
   down-turn n m h false e = rw h (other _ _ (sym (rw h at e)) refl)
 
+  -- k unused records from r down
+  down-run : (k r : ℕ) → k ≤ r → ((j : ℕ) → j < k → live s a (r - j) ≡ false) → live-down s a r ≡ live-down s a (r - k)
+  down-run zero r h l = ap (live-down s a) (omega arith)
+  down-run (suc k) r h l =
+      down-run k r (omega arith) (λ j q. l j (omega arith)) ∙ down-turn (r - k) (r - suc k) (omega arith) false (sym (l k (omega arith)))
+
   module _ (from r : ℕ) (e : live-down s a from ≡ live-down s a r) where
+    pub down-word : (b : Bool) → (b ≡ true → EmptyDown s a r) → b ≡ true → live-down s a from ≡ live-down s a (r - 16)
+    down-word b f u =
+        let h : 16 ≤ r = f u .many in
+        e ∙ down-run 16 r h (λ j q.
+        let d : r - j ≡ r - 15 + (15 - j) = omega arith in
+        rw d (f u .alike .all (15 - j) (omega arith)))
+
     pub down-end : r ≡ 0 → 0 ≡ live-down s a from
     unfolding live-down
     down-end z = sym (e ∙ ap (live-down s a) z)

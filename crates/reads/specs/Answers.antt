@@ -1,6 +1,6 @@
 -- What the reading calls answer, as outcomes of the definitions.
 -- Assumes nothing.
-use Prim.Native.Nat.{ℕ, _≤_}
+use Prim.Native.Nat.{ℕ, _+_, _-_, _≤_}
 use mathlib.Core.Bool.{true, false, cond}
 use mathlib.Core.List.{List, []}
 use lib.Dec.{eqb, leb}
@@ -15,6 +15,7 @@ use Rattle.spec.specs.Area.{Area, entry-at, read-links}
 use Rattle.spec.specs.Cursor.{at-record, no-links, ByNumber as Number, current, above, below, given, Along as Way, forward, backward, Reading as Read-by, by-number, along, by-key, no-mode, mode-good, value-good, path-chosen, record-for}
 use Rattle.spec.specs.Detail.{none-passed}
 use Rattle.spec.specs.Calls.{Done as Done-by, status-words}
+use Rattle.area.specs.MapLaws.{Alike}
 use Rattle.session.specs.declared.Outcome.{Outcome}
 use Rattle.session.specs.declared.Outcome.the-variants.{Done, Refused}
 use Rattle.reads.specs.declared.ByNumber.{ByNumber}
@@ -95,3 +96,12 @@ got-out (Refused why) s a = refuse why
 abbrev pub Readable : Outcome → Type 0
 Readable (Done g) = 1 ≤ g .at
 Readable (Refused why) = Unit {0}
+
+-- the 16 records above r, or from r down, are those of a word of the map and all unused
+pub record EmptyAbove (s : Shape) (a : Area) (r : ℕ) : Type 0 where
+  pub within : r + 16 ≤ s .cap
+  pub alike : Alike s a (r + 1) false
+
+pub record EmptyDown (s : Shape) (a : Area) (r : ℕ) : Type 0 where
+  pub many : 16 ≤ r
+  pub alike : Alike s a (r - 15) false

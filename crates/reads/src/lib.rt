@@ -1,6 +1,7 @@
 // The reading calls, find and get, up to their outcome: each reading step of document 01's table "Get modes", and the links
 // and the number that a get tells.
 ghost use mathlib.Core.Path.{_≡_};
+ghost use mathlib.Core.Bool.{true};
 ghost use mathlib.Core.List.{[]};
 ghost use Prim.Native.Nat.{_-_, _≤_};
 ghost use lib.ListN.{getD};
@@ -14,13 +15,14 @@ ghost use Rattle.root.specs.Plan.{Planned};
 ghost use Rattle.area.specs.Answers.{links-out};
 ghost use Rattle.session.specs.Answers.{done-out, Settable};
 ghost use Rattle.named.specs.Answers.{found-out, fits};
-ghost use Rattle.reads.specs.Answers.{number-of, along-of, way-of, of-master, of-detail, asked-record, whole-links, line-got, got-out, Readable};
+ghost use Rattle.reads.specs.Answers.{number-of, along-of, way-of, of-master, of-detail, asked-record, whole-links, line-got, got-out, Readable, EmptyAbove, EmptyDown};
 use area::HeadRead;
 use area::LinksRead;
 use area::live;
 use area::read_head;
 use area::read_links;
 use area::synonyms;
+use area::word_alike;
 use find::Num;
 use find::find_key;
 use layout::master_of;
@@ -216,30 +218,60 @@ fn nonzero(r: u32, why: Refusal) -> Found
     }
 }
 
-// "lowest live above current"; 0 where there is none
+// Whether the 16 records above r are a word of the map, within the capacity and all unused.
+fn empty_above(area: &[u16], s: Shape, r: u32) -> bool
+    ensures { λ b. ⌜ (b ≡ true → EmptyAbove s (now (area .entry)) r) ⌝ }
+{
+    if (s.cap as u64) < (r as u64) + 16 {
+        false
+    } else {
+        word_alike(area, s, r + 1, false)
+    }
+}
+
+// "lowest live above current"; 0 where there is none. An empty word of the map is passed at once.
 fn live_above(area: &[u16], s: Shape, from: u32) -> u32
     ensures { λ r. ⌜ r ≡ above-live s (now (area .entry)) (s .cap - from) from ⌝ }
 {
     let mut r = from;
     while r < (s.cap as u32) {
-        r += 1;
-        if live(area, s, r) {
-            return r;
+        if empty_above(area, s, r) {
+            r += 16;
+        } else {
+            r += 1;
+            if live(area, s, r) {
+                return r;
+            }
         }
     }
     0
 }
 
-// "highest live below current"; 0 where there is none
+// Whether the 16 records down from r are a word of the map and all unused.
+fn empty_down(area: &[u16], s: Shape, r: u32) -> bool
+    ensures { λ b. ⌜ (b ≡ true → EmptyDown s (now (area .entry)) r) ⌝ }
+{
+    if r < 16 {
+        false
+    } else {
+        word_alike(area, s, r - 15, false)
+    }
+}
+
+// "highest live below current"; 0 where there is none. An empty word of the map is passed at once.
 fn live_down(area: &[u16], s: Shape, from: u32) -> u32
     ensures { λ r. ⌜ r ≡ down-live s (now (area .entry)) from ⌝ }
 {
     let mut r = from;
     while r != 0 {
-        if live(area, s, r) {
-            return r;
+        if empty_down(area, s, r) {
+            r -= 16;
+        } else {
+            if live(area, s, r) {
+                return r;
+            }
+            r -= 1;
         }
-        r -= 1;
     }
     0
 }
