@@ -83,7 +83,7 @@ fn put_paths(
     requires { ⌜ Planned (now root) plan ⌝ }
     requires { ⌜ (1 ≤ s) × (s ≤ sets-of (now root)) × (kind-of (now root) s ≡ 3) × (d ≡ shape-in (now root) s) × (d .cap ≤ 4095) ⌝ }
     ensures is { λ w. ⌜ lined-out (w .lining) (w .passed) (now (area .exit)) ≡ paths-put (detail-of (now (root .entry)) s) (now (entry .entry)) r (paths-of (now (root .entry)) s) 1 (record { area = now (area .entry); passed = none-passed }) ⌝ }
-    ensures back { λ w. ⌜ Back (now (area .entry)) (now (jr .entry)) 0 692 (now (area .exit)) (now (jr .exit)) (w .count) ⌝ }
+    ensures back { λ w. ⌜ Back (now (area .entry)) (now (jr .entry)) 0 (173 * paths-of (now (root .entry)) s) (now (area .exit)) (now (jr .exit)) (w .count) ⌝ }
 {
     let mut passed = [0u16; 4];
     let mut n: usize = 0;
@@ -143,7 +143,7 @@ pub fn put_line(root: &[u16], plan: Plan, s: u16, area: &mut [u16], entry: &[u16
     }
 }
 
-// The same with the record taken. Four paths put down at most 173 words each.
+// The same with the record taken. A path puts down at most 173 words; a room for two paths is cleared in half the time.
 fn put_taken(
     root: &[u16],
     plan: Plan,
@@ -159,6 +159,10 @@ fn put_taken(
     ensures kept { λ w. ⌜ Unput (w .entered) (now (area .entry)) (now (area .exit)) ⌝ }
     ensures none { λ w. ⌜ Unpassed (w .entered) (w .passed) ⌝ }
 {
+    if path_count(root, s) <= 2 {
+        let mut jr = [0u64; 346];
+        return put_by(root, plan, s, area, &mut jr, d, t, entry);
+    }
     let mut jr = [0u64; 692];
     put_by(root, plan, s, area, &mut jr, d, t, entry)
 }
@@ -175,7 +179,7 @@ fn put_by(
     entry: &[u16],
 ) -> LineWent
     requires { ⌜ Planned (now root) plan ⌝ }
-    requires { ⌜ (1 ≤ s) × (s ≤ sets-of (now root)) × (kind-of (now root) s ≡ 3) × (d ≡ shape-in (now root) s) × (d .cap ≤ 4095) × (1 ≤ t .at) × (length (now entry) ≤ 65535) × (692 ≤ length (now jr)) ⌝ }
+    requires { ⌜ (1 ≤ s) × (s ≤ sets-of (now root)) × (kind-of (now root) s ≡ 3) × (d ≡ shape-in (now root) s) × (d .cap ≤ 4095) × (1 ≤ t .at) × (length (now entry) ≤ 65535) × (173 * paths-of (now root) s ≤ length (now jr)) ⌝ }
     ensures is { λ w. ⌜ line-out (w .entered) (w .passed) (now (area .exit)) ≡ taken-put (detail-of (now (root .entry)) s) t (now (area .entry)) (now (entry .entry)) ⌝ }
     ensures kept { λ w. ⌜ Unput (w .entered) (now (area .entry)) (now (area .exit)) ⌝ }
     ensures none { λ w. ⌜ Unpassed (w .entered) (w .passed) ⌝ }
