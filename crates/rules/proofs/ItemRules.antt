@@ -1,60 +1,126 @@
 -- What each way out of the functions that judge a root shows. Assumes nothing.
-use Prim.Native.Nat.{ℕ, suc, _+_, _*_, _^_, _≤_, _<_, _-_}
+use Prim.Native.Nat.{ℕ, zero, suc, _+_, _*_, _^_, _≤_, _<_, _-_}
 use mathlib.Core.Path.{_≡_, refl, sym, _∙_}
 use mathlib.Core.Bool.{Bool, true, false, _&&_, _||_}
 use mathlib.Core.List.{List}
 use mathlib.Core.Logic.{dite}
 use native.Mathlib.Omega.{arith}
-use native.Mathlib.Decide.{decLe}
+use native.Mathlib.Decide.{decLe, ℕ-discrete}
+use native.Mathlib.Numerals.{add-one}
 use lib.ListN.{length, getD}
 use lib.Dec.{leb, eqb}
-use lib.Bits.{bitOr}
+use lib.Bits.{bitOr, bitAnd, or-zero-l, or-add-and, and-le-r}
 use borrow.Author.Tests.{eq-eqb, ne-eqb, le-leb, lt-leb}
 use Rattle.spec.specs.Words.{all, any, within}
 use Rattle.spec.specs.Root.{items, sets, root-length, item-type, item-length, kind, key-item, path-count, item-count, set-item, item-good, among, item-listed, kind-good, description, capacity, set-item-good, set-good}
 use Rattle.root.specs.Ranges.{refused, never-both, or-none, any-more, and-both, and-false, same-test, all-at, all-of, all-fails}
 use Rattle.root.specs.Good.{place-listed}
 use Rattle.root.proofs.Loops.{all-more}
-use Rattle.rules.specs.Rules.{framed, unused, items-good, held, Holds}
+use Rattle.rules.specs.Rules.{framed, longest, unused, items-good, held, Holds}
 use Rattle.rules.proofs.Bits.{held-none, held-with}
 
+-- ---- every item is looked at, and every unused place
+pub every-start : (f : ℕ → Bool) → true ≡ all 0 f
+unfolding all
+every-start f = refl
+
+every-more : (f : ℕ → Bool) (k : ℕ) → all (k + 1) f ≡ all k f && f (k + 1)
+unfolding all
+every-more f k = rw (add-one k)
+
+pub every-turn : (f : ℕ → Bool) (k : ℕ) (g b r : Bool) → g ≡ all k f → b ≡ f (k + 1) → r ≡ g && b → r ≡ all (k + 1) f
+every-turn f k g b r p q e = e ∙ rw (p, q) (sym (every-more f k))
+
+pub every-end : (f : ℕ → Bool) (k n N : ℕ) (g : Bool) → n ≡ N → k ≤ n → n ≤ k → g ≡ all k f → g ≡ all N f
+every-end f k n N g e h l p = let q : k ≡ N = omega arith in p ∙ rw q
+
 -- ---- an item
-neither : (a b : Bool) → false ≡ a && false || b && false
-neither true b = sym (and-false b false refl)
-neither false b = sym (and-false b false refl)
+pub longest-text : (t : ℕ) → t ≡ 3 → 32 ≡ longest t
+unfolding longest
+longest-text t e = rw e
 
-module _ (root : List ℕ) (i t n : ℕ) (p : t ≡ item-type root i) (q : n ≡ item-length root i) where
-  pub length-zero : n < 1 → false ≡ item-good root i
+module _ (t : ℕ) (e : t ≡ 3 → ⊥) where
+  pub longest-low : t < 1 → 0 ≡ longest t
+  unfolding longest
+  longest-low h = sym (rw (longest, ne-eqb t 3 e, lt-leb 1 t h))
+
+  pub longest-high : 2 < t → 0 ≡ longest t
+  unfolding longest
+  longest-high h = sym (rw (longest, ne-eqb t 3 e, and-false (leb 1 t) (leb t 2) (lt-leb t 2 h)))
+
+  pub longest-number : 1 ≤ t → t ≤ 2 → 2 ≡ longest t
+  unfolding longest
+  longest-number h k = sym (rw (longest, ne-eqb t 3 e, le-leb 1 t h, le-leb t 2 k))
+
+no-length : (n : ℕ) → false ≡ within 1 0 n
+no-length zero = refl
+no-length (suc n) = sym (and-false (leb 1 (suc n)) (leb (suc n) 0) (lt-leb (suc n) 0 (omega arith)))
+
+by-type : (t n : ℕ) → within 1 (longest t) n ≡ (within 1 2 t && within 1 2 n) || (eqb t 3 && within 1 32 n)
+unfolding longest
+by-type t n =
+    dite (ℕ-discrete t 3) (λ e. rw e) (λ e. rw (longest, ne-eqb t 3 e) (go (within 1 2 t)))
+  where
+    go : (b : Bool) → within 1 (elim b [ true ↦ 2 | false ↦ 0 ]) n ≡ (b && within 1 2 n) || false
+    go true = or-none (within 1 2 n)
+    go false = sym (no-length n)
+
+module _ (root : List ℕ) (i t n top : ℕ) (p : t ≡ item-type root i) (q : n ≡ item-length root i) (r : top ≡ longest t) where
+  as-limit : within 1 top n ≡ item-good root i
   unfolding item-good
-  length-zero h = rw (← p, ← q, lt-leb 1 n h) (neither (within 1 2 t) (eqb t 3))
+  as-limit = rw (r, p, q) (by-type (item-type root i) (item-length root i))
 
-  module _ (h : 1 ≤ n) where
-    pub text-good : t ≡ 3 → leb n 32 ≡ item-good root i
-    unfolding item-good
-    text-good e = rw (← p, ← q, e, le-leb 1 n h)
+  pub item-none : n < 1 → false ≡ item-good root i
+  item-none h = rw (lt-leb 1 n h) at as-limit
 
-    module _ (e : t ≡ 3 → ⊥) where
-      pub type-zero : t < 1 → false ≡ item-good root i
-      unfolding item-good
-      type-zero a = rw (← p, ← q, ne-eqb t 3 e, lt-leb 1 t a)
-
-      pub no-type : 2 < t → false ≡ item-good root i
-      unfolding item-good
-      no-type b = rw (← p, ← q, ne-eqb t 3 e, and-false (leb 1 t) (leb t 2) (lt-leb t 2 b))
-
-      pub number-good : 1 ≤ t → t ≤ 2 → leb n 2 ≡ item-good root i
-      unfolding item-good
-      number-good a b = rw (← p, ← q, ne-eqb t 3 e, le-leb 1 t a, le-leb t 2 b, le-leb 1 n h) (or-none (leb n 2))
+  pub item-some : 1 ≤ n → leb n top ≡ item-good root i
+  item-some h = rw (le-leb 1 n h) at as-limit
 
 -- ---- unused places
-module _ (root : List ℕ) (at k w : ℕ) (l : 1 ≤ k) (p : w ≡ getD root (at + k) 0) where
-  pub unused-turn : w ≡ 0 → all (k - 1) (unused root at) ≡ true → all (k + 1 - 1) (unused root at) ≡ true
-  unfolding unused
-  unused-turn z e = all-more (unused root at) k l e (eq-eqb (getD root (at + k) 0) 0 (sym p ∙ z))
+none-of : (a b : ℕ) → eqb (bitOr a b) 0 ≡ eqb a 0 && eqb b 0
+none-of zero b = rw (or-zero-l b)
+none-of (suc a) b =
+    let l : bitAnd (suc a) b ≤ b = and-le-r (suc a) b in
+    let e : bitOr (suc a) b + bitAnd (suc a) b ≡ suc a + b = or-add-and (suc a) b in
+    rw (ne-eqb (bitOr (suc a) b) 0 (λ z. omega arith), ne-eqb (suc a) 0 (λ z. omega arith))
 
-  pub unused-stop : (n : ℕ) → k ≤ n → (w ≡ 0 → ⊥) → false ≡ all n (unused root at)
+module _ (root : List ℕ) (at : ℕ) where
+  pub zeros-start : eqb 0 0 ≡ all 0 (unused root at)
+  zeros-start = every-start (unused root at)
+
+  pub zeros-turn :
+      (k seen w : ℕ) → w ≡ getD root (at + (k + 1)) 0 → eqb seen 0 ≡ all k (unused root at) → eqb (bitOr seen w) 0 ≡ all (k + 1) (unused root at)
   unfolding unused
-  unused-stop n h z = sym (all-fails (unused root at) n k l h (ne-eqb (getD root (at + k) 0) 0 (λ e. z (p ∙ e))))
+  zeros-turn k seen w p e = every-turn (unused root at) k (eqb seen 0) (eqb w 0) (eqb (bitOr seen w) 0) e (rw p) (none-of seen w)
+
+  pub zeros-end : (k n seen : ℕ) → k ≤ n → n ≤ k → eqb seen 0 ≡ all k (unused root at) → eqb seen 0 ≡ all n (unused root at)
+  zeros-end k n seen h l e = every-end (unused root at) k n n (eqb seen 0) refl h l e
+
+  module _ (n : ℕ) (low : 8 ≤ n) (b : Bool) (p : b ≡ all 8 (unused root at)) where
+    pub blank-first : b ≡ false → false ≡ all n (unused root at)
+    blank-first e =
+        refused (all n (unused root at))
+        (λ h.
+        never-both (all 8 (unused root at)) (sym p ∙ e) (all-of (unused root at) 8 (λ i l k. all-at (unused root at) n i h l (omega arith))))
+
+    pub blank-last : (r : Bool) → n ≤ 16 → b ≡ true → r ≡ all 8 (unused root (at + (n - 8))) → r ≡ all n (unused root at)
+    unfolding unused
+    blank-last r high e q = q ∙ same-test (all 8 (unused root (at + (n - 8)))) (all n (unused root at)) up down
+      where
+        shifted : (k : ℕ) → at + (n - 8) + k ≡ at + (n - 8 + k)
+        shifted k = omega arith
+
+        up : all 8 (unused root (at + (n - 8))) ≡ true → all n (unused root at) ≡ true
+        up h =
+            all-of (unused root at) n
+            (λ i l k.
+            dite (decLe i 8) (λ m. all-at (unused root at) 8 i (sym p ∙ e) l m)
+            (λ m.
+            let z : at + (n - 8) + (i - (n - 8)) ≡ at + i = omega arith in
+            rw z at (all-at (unused root (at + (n - 8))) 8 (i - (n - 8)) h (omega arith) (omega arith))))
+
+        down : all n (unused root at) ≡ true → all 8 (unused root (at + (n - 8))) ≡ true
+        down h = all-of (unused root (at + (n - 8))) 8 (λ i l k. rw (shifted i) (all-at (unused root at) n (n - 8 + i) h (omega arith) (omega arith)))
 
 -- ---- the frame
 pub length-tested :

@@ -12,13 +12,13 @@ use lib.Bits.{bitXor}
 use lib.Dec.{leb, eqb}
 use mir.Syntax.{w16}
 use mir.Val.{Fits}
-use borrow.Author.Tests.{eq-eqb, ne-eqb, le-leb, lt-leb}
+use borrow.Author.Tests.{eqb-true, eq-eqb, ne-eqb, le-leb, lt-leb}
 use borrow.Author.Needs.{fits-under}
-use Rattle.spec.specs.Words.{any}
-use Rattle.spec.specs.Root.{sets, item-type, item-length, kind, item-count, key-item, path-count, path-master, path-search, path-sort, is-unsigned, is-text, leading, leading-from, has-item, names-master, fits-key, search-good, sort-good, path-good}
-use Rattle.root.specs.Ranges.{and-false, any-more}
+use Rattle.spec.specs.Words.{within, all, any, latest}
+use Rattle.spec.specs.Root.{items, sets, set-item, set-item-good, item-listed, among, set-good, item-type, item-length, kind, item-count, key-item, path-count, path-master, path-search, path-sort, is-unsigned, is-text, leading, leading-from, has-item, names-master, fits-key, search-good, sort-good, path-good}
+use Rattle.root.specs.Ranges.{and-left, and-false, any-more, all-at, Latest}
 use Rattle.root.specs.Plan.{place-of, head-number}
-use Rattle.root.specs.Good.{leading-from-step, path-facts, names}
+use Rattle.root.specs.Good.{leading-from-step, path-facts, names, within-facts, place-listed, Set-facts, set-facts, item-found}
 use Rattle.rules.specs.Rules.{held, Holds, Spare}
 use Rattle.rules.specs.Rules.{Counted}
 use Rattle.rules.proofs.Bits.{held-in, held-without}
@@ -31,6 +31,9 @@ module _ (root : List ℕ) (m : ℕ) where
 
   pub names-one : (b : Bool) → b ≡ names-master root m → b ≡ true → 1 ≤ m
   names-one b q e = names root m (sym q ∙ e) .low
+
+  pub names-top : (b : Bool) → b ≡ names-master root m → b ≡ true → m ≤ sets root
+  names-top b q e = names root m (sym q ∙ e) .high
 
   module _ (n : ℕ) (p : n ≡ sets root) where
     pub names-high : n < m → false ≡ names-master root m
@@ -45,6 +48,30 @@ module _ (root : List ℕ) (m : ℕ) where
       pub names-rest : 1 ≤ k → leb k 2 ≡ names-master root m
       unfolding names-master
       names-rest h = rw (← p, ← q, le-leb 1 m a, le-leb m n b, le-leb 1 k h)
+
+-- ---- an item that a set has
+module _ (root : List ℕ) (s i : ℕ) (good : set-good root s ≡ true) where
+  exists : has-item root s i ≡ true → i ≤ items root
+  unfolding item-listed
+  exists h =
+      let f : Set-facts root s = set-facts root s good in
+      let l : Latest (λ j. eqb (set-item root s j) i) (item-count root s) = item-found root s i h in
+      let j : ℕ = latest (item-count root s) (λ j. eqb (set-item root s j) i) in
+      let there : set-item root s j ≡ i = eqb-true (set-item root s j) i (l .holds) in
+      let few : item-count root s ≤ 16 = f .items-high in
+      let up : j ≤ item-count root s = l .high in
+      let ok : item-listed root s j ≡ true =
+      sym (place-listed root s j (l .high)) ∙ all-at (set-item-good root s) 16 j (f .listed) (l .low) (omega arith) in
+      rw there at (within-facts 1 (items root) (set-item root s j) (and-left (within 1 (items root) (set-item root s j)) (not (among root s (j - 1) (set-item root s j))) ok) .1)
+
+  module _ (b : Bool) (w : ℕ) (p : b ≡ held w i) (e : b ≡ true) where
+    pub held-exists : Holds root s (item-count root s) w → i ≤ items root
+    unfolding Holds
+    held-exists g = exists (sym (g i) ∙ sym p ∙ e)
+
+    pub spare-exists : (n : ℕ) → Spare root s n w → i ≤ items root
+    unfolding Spare
+    spare-exists n g = exists (and-left (has-item root s i) (not (any n (λ q. eqb (path-search root s q) i))) (sym (g i) ∙ sym p ∙ e))
 
 -- ---- the search item against the master's key
 module _ (root : List ℕ) (i m k t u : ℕ) (p : k ≡ key-item root m) (q : t ≡ item-type root i) (r : u ≡ item-type root k) where

@@ -5,6 +5,7 @@ use mathlib.Core.Bool.{Bool, true, false, _&&_}
 use mathlib.Core.List.{List}
 use lib.ListN.{length}
 use lib.Dec.{eqb}
+use borrow.Author.Tests.{eqb-true}
 use Rattle.spec.specs.Words.{within, all}
 use Rattle.spec.specs.Root.{items, sets, max-items, max-sets, max-paths, item-good, set-good, set-path-good, leading-good, set-linked, root-length, root-good}
 use Rattle.root.specs.Ranges.{and-left, and-right, and-both, refused, never-both, same-test, all-at, all-of}
@@ -16,10 +17,19 @@ module _ (root : List ℕ) where
   unfolding framed
   counts e = and-left (within 1 max-items (items root) && within 1 max-sets (sets root)) (eqb (length root) (root-length root)) e
 
+  whole : framed root ≡ true → length root ≡ root-length root
+  unfolding framed
+  whole e =
+      eqb-true (length root) (root-length root)
+      (and-right (within 1 max-items (items root) && within 1 max-sets (sets root)) (eqb (length root) (root-length root)) e)
+
   module _ (f : Bool) (p : f ≡ framed root) where
     pub framed-items : f ≡ true → items root ≤ 64
     framed-items e =
         within-facts 1 64 (items root) (and-left (within 1 max-items (items root)) (within 1 max-sets (sets root)) (counts (sym p ∙ e))) .1
+
+    pub framed-long : f ≡ true → length root ≡ root-length root
+    framed-long e = whole (sym p ∙ e)
 
     pub head-unframed : f ≡ false → false ≡ head-good root
     unfolding head-good
@@ -41,6 +51,9 @@ module _ (root : List ℕ) where
 
       pub head-items : items root ≤ 64
       head-items = framed-items true (sym frame) refl
+
+      pub head-long : length root ≡ root-length root
+      head-long = whole frame
 
       pub head-sets : sets root ≤ 16
       head-sets = within-facts 1 16 (sets root) (and-right (within 1 max-items (items root)) (within 1 max-sets (sets root)) (counts frame)) .1

@@ -2,12 +2,12 @@
 -- Assumes nothing.
 use Prim.Native.Nat.{ℕ, _+_, _*_, _/_, _%_, _^_, _≤_, _-_}
 use mathlib.Core.Path.{_≡_}
-use mathlib.Core.Bool.{Bool, _&&_, not}
+use mathlib.Core.Bool.{Bool, true, false, _&&_, not}
 use mathlib.Core.List.{List}
 use lib.ListN.{length, getD}
 use lib.Dec.{eqb}
 use Rattle.spec.specs.Words.{word, within, all, any}
-use Rattle.spec.specs.Root.{items, sets, item-count, path-count, path-search, leading, leading-from, among, has-item, max-items, max-sets, max-set-items, max-paths, item-good, set-item-good, set-good, set-path-good, root-length}
+use Rattle.spec.specs.Root.{items, sets, item-count, path-count, path-search, leading, leading-from, among, has-item, is-text, max-items, max-sets, max-set-items, max-paths, max-number-length, max-text-length, item-good, set-item-good, set-good, set-path-good, root-length}
 use Rattle.root.specs.Plan.{place-of, head-number}
 
 -- "Word 1: items, 1..64. Word 2: sets, 1..16."; "nothing follows"
@@ -16,6 +16,14 @@ framed root = within 1 max-items (items root) && within 1 max-sets (sets root) &
 
 unfoldable pub head-good : List ℕ → Bool
 head-good root = framed root && all (items root) (item-good root)
+
+-- "I and K: 1 or 2; X: 1..32": the most words of an item by its type; 0 where there is no such type
+unfoldable pub longest : ℕ → ℕ
+longest type =
+    elim (is-text type) [
+      | true ↦ max-text-length
+      | false ↦ elim (within 1 2 type) [ true ↦ max-number-length | false ↦ 0 ]
+    ]
 
 -- "Unused places are 0": the n words after a place
 unfoldable pub unused : List ℕ → ℕ → ℕ → Bool

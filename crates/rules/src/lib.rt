@@ -1,12 +1,21 @@
 // The rules of the root (−91), judged in one pass over its sets, with its paths counted on the way.
 ghost use mathlib.Core.Path.{_≡_};
-ghost use mathlib.Core.Bool.{true, _||_};
+ghost use mathlib.Core.Bool.{true, _&&_, _||_};
 ghost use Prim.Native.Nat.{_+_, _-_, _*_, _^_, _≤_, _<_};
 ghost use lib.ListN.{length, replicate};
 ghost use Rattle.spec.specs.Words.{all};
-ghost use Rattle.spec.specs.Root.{items, sets, item-type, description, item-count, key-item, path-count, is-unsigned, is-text, item-good, item-listed, kind-good, set-good, names-master, fits-key, sort-good, path-good, leading, leading-good, root-good};
-ghost use Rattle.rules.specs.Rules.{framed, head-good, unused, items-good, set-judged, held, Holds, Spare, Counted};
+ghost use Rattle.spec.specs.Root.{items, sets, item-type, description, item-count, key-item, path-count, is-unsigned, is-text, item-good, item-listed, kind-good, set-good, names-master, fits-key, sort-good, path-good, leading, leading-good, root-length, root-good};
+ghost use Rattle.rules.specs.Rules.{framed, longest, head-good, unused, items-good, set-judged, held, Holds, Spare, Counted};
 ghost use Rattle.root.specs.Plan.{Leads, Slots};
+
+// Whether item i, a number up to 64, is among those in the bits of w.
+fn holds_one(w: u64, i: u16) -> bool
+    requires { ⌜ 1 ≤ i ⌝ }
+    requires { ⌜ i ≤ 64 ⌝ }
+    ensures { λ r. ⌜ r ≡ held w i ⌝ }
+{
+    (w >> (i - 1)) % 2 == 1
+}
 
 // Whether item i is among those in the bits of w.
 fn holds(w: u64, i: u16) -> bool
@@ -18,7 +27,7 @@ fn holds(w: u64, i: u16) -> bool
     if 64 < i {
         return false;
     }
-    (w >> (i - 1)) % 2 == 1
+    holds_one(w, i)
 }
 
 // Item i alone in bits.
@@ -30,42 +39,54 @@ fn one(i: u16) -> u64
     1 << (i - 1)
 }
 
-// "type (1 = I signed, 2 = K unsigned, 3 = X characters) and length in words (I and K: 1 or 2; X: 1..32)"
-fn item_good(root: &[u16], i: u16) -> bool
-    ensures { λ r. ⌜ r ≡ item-good (now (root .entry)) i ⌝ }
+// The most words of an item by its type, "I and K: 1 or 2; X: 1..32"; 0 where there is no such type.
+fn longest(t: u16) -> u16
+    ensures { λ r. ⌜ r ≡ longest t ⌝ }
 {
-    let t = root::item_type(root, i);
-    let n = root::item_length(root, i);
-    if n < 1 {
-        return false;
-    }
     if t == 3 {
-        return n <= 32;
+        return 32;
     }
     if t < 1 {
-        return false;
+        return 0;
     }
     if 2 < t {
-        return false;
+        return 0;
     }
-    n <= 2
+    2
 }
 
-// Each item of the root.
+// "type (1 = I signed, 2 = K unsigned, 3 = X characters) and length in words (I and K: 1 or 2; X: 1..32)"
+fn item_good(root: &[u16], i: u16) -> bool
+    requires { ⌜ length (now root) ≡ root-length (now root) ⌝ }
+    requires { ⌜ i ≤ items (now root) ⌝ }
+    ensures { λ r. ⌜ r ≡ item-good (now (root .entry)) i ⌝ }
+{
+    let t = stated::item_type(root, i);
+    let n = stated::item_length(root, i);
+    let top = longest(t);
+    if n < 1 { false } else { n <= top }
+}
+
+fn both(a: bool, b: bool) -> bool
+    ensures { λ r. ⌜ r ≡ a && b ⌝ }
+{
+    if a { b } else { false }
+}
+
+// Each item of the root. All are looked at, so that several can be at once.
 fn all_items_good(root: &[u16]) -> bool
+    requires { ⌜ length (now root) ≡ root-length (now root) ⌝ }
     requires { ⌜ items (now root) ≤ 64 ⌝ }
     ensures { λ r. ⌜ r ≡ all (items (now (root .entry))) (item-good (now (root .entry))) ⌝ }
 {
-    let n = root::items(root);
-    let mut i: u16 = 1;
-    while i <= n {
-        if item_good(root, i) {
-            i += 1;
-        } else {
-            return false;
-        }
+    let n = stated::items(root);
+    let mut good = true;
+    let mut i: u16 = 0;
+    while i < n {
+        i += 1;
+        good = both(good, item_good(root, i));
     }
-    true
+    good
 }
 
 // "Word 1: items, 1..64. Word 2: sets, 1..16."; "nothing follows". Nothing else is read of a root of another length.
@@ -89,21 +110,37 @@ fn framed(root: &[u16]) -> bool
     root.len() == 2 + 2 * (i as usize) + 33 * (n as usize)
 }
 
-// "Unused places are 0": the n words after a place.
-fn blank(root: &[u16], at: usize, n: usize) -> bool
+// "Unused places are 0": the n words after a place, all looked at.
+fn zeros(root: &[u16], at: usize, n: usize) -> bool
+    requires { ⌜ at + n < length (now root) ⌝ }
     requires { ⌜ at + n < 2 ^ 62 ⌝ }
     ensures { λ r. ⌜ r ≡ all n (unused (now (root .entry)) at) ⌝ }
 {
-    let mut k: usize = 1;
-    while k <= n {
-        let w = words::word(root, at + k);
-        if w == 0 {
-            k += 1;
-        } else {
-            return false;
-        }
+    let mut seen: u16 = 0;
+    let mut k: usize = 0;
+    while k < n {
+        k += 1;
+        seen = seen | stated::word(root, at + k);
     }
-    true
+    seen == 0
+}
+
+// The same. From eight words on they are two runs of eight, which share what is less than sixteen: a run of a fixed
+// length has no loop.
+fn blank(root: &[u16], at: usize, n: usize) -> bool
+    requires { ⌜ at + n < length (now root) ⌝ }
+    requires { ⌜ at + n < 2 ^ 62 ⌝ }
+    requires { ⌜ n ≤ 16 ⌝ }
+    ensures { λ r. ⌜ r ≡ all n (unused (now (root .entry)) at) ⌝ }
+{
+    if n < 8 {
+        return zeros(root, at, n);
+    }
+    if zeros(root, at, 8) {
+        zeros(root, at + (n - 8), 8)
+    } else {
+        false
+    }
 }
 
 // A set's items in bits, item i in bit i - 1, and whether the rules about them hold.
@@ -114,17 +151,19 @@ struct Listed {
 
 // "a set's items exist and differ": the first n of set s.
 fn first_items(root: &[u16], s: u16, n: u16) -> Listed
+    requires { ⌜ length (now root) ≡ root-length (now root) ⌝ }
     requires { ⌜ 1 ≤ s ⌝ }
+    requires { ⌜ s ≤ sets (now root) ⌝ }
     requires { ⌜ n ≤ 16 ⌝ }
     requires { ⌜ items (now root) ≤ 64 ⌝ }
     ensures { λ r. ⌜ r .good ≡ all n (item-listed (now (root .entry)) s) ⌝ }
     ensures { λ r. ⌜ (r .good ≡ true → Holds (now (root .entry)) s n (r .bits)) ⌝ }
 {
-    let top = root::items(root);
+    let top = stated::items(root);
     let mut bits: u64 = 0;
     let mut j: u16 = 1;
     while j <= n {
-        let x = root::set_item(root, s, j);
+        let x = stated::set_item(root, s, j);
         if x < 1 {
             return Listed {
                 good: false,
@@ -137,7 +176,7 @@ fn first_items(root: &[u16], s: u16, n: u16) -> Listed
                 bits: 0,
             };
         }
-        if holds(bits, x) {
+        if holds_one(bits, x) {
             return Listed {
                 good: false,
                 bits: 0,
@@ -151,12 +190,14 @@ fn first_items(root: &[u16], s: u16, n: u16) -> Listed
 
 // "item count 1..16", and the 16 item numbers: the listed ones, and 0 after them.
 fn items_good(root: &[u16], s: u16) -> Listed
+    requires { ⌜ length (now root) ≡ root-length (now root) ⌝ }
     requires { ⌜ 1 ≤ s ⌝ }
+    requires { ⌜ s ≤ sets (now root) ⌝ }
     requires { ⌜ items (now root) ≤ 64 ⌝ }
     ensures { λ r. ⌜ r .good ≡ items-good (now (root .entry)) s ⌝ }
     ensures { λ r. ⌜ (r .good ≡ true → Holds (now (root .entry)) s (item-count (now (root .entry)) s) (r .bits)) ⌝ }
 {
-    let n = root::item_count(root, s);
+    let n = stated::item_count(root, s);
     if n < 1 {
         return Listed {
             good: false,
@@ -171,7 +212,7 @@ fn items_good(root: &[u16], s: u16) -> Listed
     }
     let t = first_items(root, s, n);
     if t.good {
-        let at = root::description(root, s) + 4 + (n as usize);
+        let at = stated::description(root, s) + 4 + (n as usize);
         Listed {
             good: blank(root, at, 16 - (n as usize)),
             bits: t.bits,
@@ -183,13 +224,15 @@ fn items_good(root: &[u16], s: u16) -> Listed
 
 // "key item number (0 for a detail); path count 0..4 (0 for a master)", "a master's key is among them"
 fn kind_good(root: &[u16], s: u16, bits: u64) -> bool
+    requires { ⌜ length (now root) ≡ root-length (now root) ⌝ }
     requires { ⌜ 1 ≤ s ⌝ }
+    requires { ⌜ s ≤ sets (now root) ⌝ }
     requires { ⌜ Holds (now root) s (item-count (now root) s) bits ⌝ }
     ensures { λ r. ⌜ r ≡ kind-good (now (root .entry)) s ⌝ }
 {
-    let k = root::kind(root, s);
-    let key = root::key_item(root, s);
-    let n = root::path_count(root, s);
+    let k = stated::kind(root, s);
+    let key = stated::key_item(root, s);
+    let n = stated::path_count(root, s);
     if k == 3 {
         if key == 0 { n <= 4 } else { false }
     } else {
@@ -205,12 +248,14 @@ fn kind_good(root: &[u16], s: u16, bits: u64) -> bool
 
 // The rules of set s by itself.
 fn set_good(root: &[u16], s: u16) -> Listed
+    requires { ⌜ length (now root) ≡ root-length (now root) ⌝ }
     requires { ⌜ 1 ≤ s ⌝ }
+    requires { ⌜ s ≤ sets (now root) ⌝ }
     requires { ⌜ items (now root) ≤ 64 ⌝ }
     ensures { λ r. ⌜ r .good ≡ set-good (now (root .entry)) s ⌝ }
     ensures { λ r. ⌜ (r .good ≡ true → Holds (now (root .entry)) s (item-count (now (root .entry)) s) (r .bits)) ⌝ }
 {
-    let c = root::capacity(root, s);
+    let c = stated::capacity(root, s);
     if c < 1 {
         return Listed {
             good: false,
@@ -236,27 +281,31 @@ fn set_good(root: &[u16], s: u16) -> Listed
 
 // "A path names a master set"
 fn names_master(root: &[u16], m: u16) -> bool
+    requires { ⌜ length (now root) ≡ root-length (now root) ⌝ }
     ensures { λ r. ⌜ r ≡ names-master (now (root .entry)) m ⌝ }
 {
-    let n = root::sets(root);
+    let n = stated::sets(root);
     if m < 1 {
         return false;
     }
     if n < m {
         return false;
     }
-    let k = root::kind(root, m);
+    let k = stated::kind(root, m);
     if k < 1 { false } else { k <= 2 }
 }
 
 // "a search item has its master's key type and length"
 fn fits_key(root: &[u16], i: u16, m: u16) -> bool
+    requires { ⌜ length (now root) ≡ root-length (now root) ⌝ }
+    requires { ⌜ i ≤ items (now root) ⌝ }
     requires { ⌜ 1 ≤ m ⌝ }
+    requires { ⌜ m ≤ sets (now root) ⌝ }
     ensures { λ r. ⌜ r ≡ fits-key (now (root .entry)) i (key-item (now (root .entry)) m) ⌝ }
 {
-    let k = root::key_item(root, m);
-    if root::item_type(root, i) == root::item_type(root, k) {
-        root::item_length(root, i) == root::item_length(root, k)
+    let k = stated::key_item(root, m);
+    if stated::item_type(root, i) == root::item_type(root, k) {
+        stated::item_length(root, i) == root::item_length(root, k)
     } else {
         false
     }
@@ -264,23 +313,29 @@ fn fits_key(root: &[u16], i: u16, m: u16) -> bool
 
 // "a sort item is K or X"
 fn sortable(root: &[u16], i: u16) -> bool
+    requires { ⌜ length (now root) ≡ root-length (now root) ⌝ }
+    requires { ⌜ i ≤ items (now root) ⌝ }
     ensures { λ r. ⌜ r ≡ (is-unsigned (item-type (now (root .entry)) i) || is-text (item-type (now (root .entry)) i)) ⌝ }
 {
-    let t = root::item_type(root, i);
+    let t = stated::item_type(root, i);
     if t == 2 { true } else { t == 3 }
 }
 
 // "its items are among its own set's items", "a sort item is K or X and isn't that path's search item" (0: none)
 fn sort_good(root: &[u16], s: u16, p: u16, bits: u64) -> bool
+    requires { ⌜ length (now root) ≡ root-length (now root) ⌝ }
     requires { ⌜ 1 ≤ s ⌝ }
+    requires { ⌜ s ≤ sets (now root) ⌝ }
+    requires { ⌜ set-good (now root) s ≡ true ⌝ }
+    requires { ⌜ p ≤ 4 ⌝ }
     requires { ⌜ Holds (now root) s (item-count (now root) s) bits ⌝ }
     ensures { λ r. ⌜ r ≡ sort-good (now (root .entry)) s p ⌝ }
 {
-    let i = root::path_sort(root, s, p);
+    let i = stated::path_sort(root, s, p);
     if i == 0 {
         return true;
     }
-    let x = root::path_search(root, s, p);
+    let x = stated::path_search(root, s, p);
     if i == x {
         return false;
     }
@@ -294,13 +349,17 @@ fn sort_good(root: &[u16], s: u16, p: u16, bits: u64) -> bool
 // The rules of path p of set s. One test of the bits left says both "its items are among its own set's items" and "search
 // items of one set differ".
 fn path_good(root: &[u16], s: u16, p: u16, bits: u64, spare: u64) -> bool
+    requires { ⌜ length (now root) ≡ root-length (now root) ⌝ }
     requires { ⌜ 1 ≤ s ⌝ }
+    requires { ⌜ s ≤ sets (now root) ⌝ }
+    requires { ⌜ set-good (now root) s ≡ true ⌝ }
+    requires { ⌜ p ≤ 4 ⌝ }
     requires { ⌜ Holds (now root) s (item-count (now root) s) bits ⌝ }
     requires { ⌜ Spare (now root) s (p - 1) spare ⌝ }
     ensures { λ r. ⌜ r ≡ path-good (now (root .entry)) s p ⌝ }
 {
-    let m = root::path_master(root, s, p);
-    let i = root::path_search(root, s, p);
+    let m = stated::path_master(root, s, p);
+    let i = stated::path_search(root, s, p);
     if names_master(root, m) {
         if holds(spare, i) {
             if fits_key(root, i, m) {
@@ -318,19 +377,24 @@ fn path_good(root: &[u16], s: u16, p: u16, bits: u64, spare: u64) -> bool
 
 // The search item of path p leaves the spare ones.
 fn searched(root: &[u16], s: u16, p: u16, spare: u64) -> u64
+    requires { ⌜ length (now root) ≡ root-length (now root) ⌝ }
     requires { ⌜ 1 ≤ s ⌝ }
+    requires { ⌜ s ≤ sets (now root) ⌝ }
     requires { ⌜ 1 ≤ p ⌝ }
+    requires { ⌜ p ≤ 4 ⌝ }
     requires { ⌜ path-good (now root) s p ≡ true ⌝ }
     requires { ⌜ Spare (now root) s (p - 1) spare ⌝ }
     ensures { λ r. ⌜ Spare (now (root .entry)) s p r ⌝ }
 {
-    let i = root::path_search(root, s, p);
+    let i = stated::path_search(root, s, p);
     spare ^ one(i)
 }
 
 // Path p of set s takes the next head of its master.
 fn counted(root: &[u16], s: u16, p: u16, leads: &mut [u16; 16], slots: &mut [u16; 64])
+    requires { ⌜ length (now root) ≡ root-length (now root) ⌝ }
     requires { ⌜ 1 ≤ s ⌝ }
+    requires { ⌜ s ≤ sets (now root) ⌝ }
     requires { ⌜ s ≤ 16 ⌝ }
     requires { ⌜ sets (now root) ≤ 16 ⌝ }
     requires { ⌜ 1 ≤ p ⌝ }
@@ -339,7 +403,7 @@ fn counted(root: &[u16], s: u16, p: u16, leads: &mut [u16; 16], slots: &mut [u16
     requires { ⌜ Counted (now root) s (p - 1) (now leads) (now slots) ⌝ }
     ensures { λ _. ⌜ Counted (now (root .entry)) s p (now (leads .exit)) (now (slots .exit)) ⌝ }
 {
-    let m = root::path_master(root, s, p);
+    let m = stated::path_master(root, s, p);
     let k = (m as usize) - 1;
     let at = 4 * ((s as usize) - 1) + ((p as usize) - 1);
     let n = leads[k];
@@ -349,7 +413,10 @@ fn counted(root: &[u16], s: u16, p: u16, leads: &mut [u16; 16], slots: &mut [u16
 
 // The paths of set s, judged and counted.
 fn paths_good(root: &[u16], s: u16, bits: u64, leads: &mut [u16; 16], slots: &mut [u16; 64]) -> bool
+    requires { ⌜ length (now root) ≡ root-length (now root) ⌝ }
     requires { ⌜ 1 ≤ s ⌝ }
+    requires { ⌜ s ≤ sets (now root) ⌝ }
+    requires { ⌜ set-good (now root) s ≡ true ⌝ }
     requires { ⌜ s ≤ 16 ⌝ }
     requires { ⌜ sets (now root) ≤ 16 ⌝ }
     requires { ⌜ path-count (now root) s ≤ 4 ⌝ }
@@ -358,7 +425,7 @@ fn paths_good(root: &[u16], s: u16, bits: u64, leads: &mut [u16; 16], slots: &mu
     ensures { λ r. ⌜ r ≡ all (path-count (now (root .entry)) s) (path-good (now (root .entry)) s) ⌝ }
     ensures { λ r. ⌜ (r ≡ true → Counted (now (root .entry)) s (path-count (now (root .entry)) s) (now (leads .exit)) (now (slots .exit))) ⌝ }
 {
-    let n = root::path_count(root, s);
+    let n = stated::path_count(root, s);
     let mut spare = bits;
     let mut p: u16 = 1;
     while p <= n {
@@ -375,18 +442,22 @@ fn paths_good(root: &[u16], s: u16, bits: u64, leads: &mut [u16; 16], slots: &mu
 
 // "Unused places are 0": the triples after the path count.
 fn rest_unused(root: &[u16], s: u16) -> bool
+    requires { ⌜ length (now root) ≡ root-length (now root) ⌝ }
     requires { ⌜ 1 ≤ s ⌝ }
+    requires { ⌜ s ≤ sets (now root) ⌝ }
     requires { ⌜ path-count (now root) s ≤ 4 ⌝ }
     ensures { λ r. ⌜ r ≡ all (12 - 3 * path-count (now (root .entry)) s) (unused (now (root .entry)) (description (now (root .entry)) s + 20 + 3 * path-count (now (root .entry)) s)) ⌝ }
 {
-    let n = root::path_count(root, s);
-    let at = root::description(root, s) + 20 + 3 * (n as usize);
+    let n = stated::path_count(root, s);
+    let at = stated::description(root, s) + 20 + 3 * (n as usize);
     blank(root, at, 12 - 3 * (n as usize))
 }
 
 // Set s judged, but for the paths that lead to it, and its own paths counted.
 fn set_judged(root: &[u16], s: u16, leads: &mut [u16; 16], slots: &mut [u16; 64]) -> bool
+    requires { ⌜ length (now root) ≡ root-length (now root) ⌝ }
     requires { ⌜ 1 ≤ s ⌝ }
+    requires { ⌜ s ≤ sets (now root) ⌝ }
     requires { ⌜ s ≤ 16 ⌝ }
     requires { ⌜ items (now root) ≤ 64 ⌝ }
     requires { ⌜ sets (now root) ≤ 16 ⌝ }
@@ -408,6 +479,7 @@ fn set_judged(root: &[u16], s: u16, leads: &mut [u16; 16], slots: &mut [u16; 64]
 
 // The sets judged, but for the paths that lead to them, and all paths counted. Nothing is counted yet.
 fn sets_judged(root: &[u16], leads: &mut [u16; 16], slots: &mut [u16; 64]) -> bool
+    requires { ⌜ length (now root) ≡ root-length (now root) ⌝ }
     requires { ⌜ items (now root) ≤ 64 ⌝ }
     requires { ⌜ sets (now root) ≤ 16 ⌝ }
     requires { ⌜ now leads ≡ replicate 16 0 ⌝ }
@@ -416,7 +488,7 @@ fn sets_judged(root: &[u16], leads: &mut [u16; 16], slots: &mut [u16; 64]) -> bo
     ensures { λ r. ⌜ (r ≡ true → Leads (now (root .entry)) (now (leads .exit))) ⌝ }
     ensures { λ r. ⌜ (r ≡ true → Slots (now (root .entry)) (now (slots .exit))) ⌝ }
 {
-    let n = root::sets(root);
+    let n = stated::sets(root);
     let mut s: u16 = 1;
     while s <= n {
         if set_judged(root, s, leads, slots) {
@@ -430,11 +502,13 @@ fn sets_judged(root: &[u16], leads: &mut [u16; 16], slots: &mut [u16; 64]) -> bo
 
 // "an automatic master has only its key and at least one path leading to it; at most 8 paths lead to a master"
 fn leading_good(root: &[u16], s: u16, lead: u16) -> bool
+    requires { ⌜ length (now root) ≡ root-length (now root) ⌝ }
     requires { ⌜ 1 ≤ s ⌝ }
+    requires { ⌜ s ≤ sets (now root) ⌝ }
     requires { ⌜ lead ≡ leading (now root) s (sets (now root)) ⌝ }
     ensures { λ r. ⌜ r ≡ leading-good (now (root .entry)) s ⌝ }
 {
-    let k = root::kind(root, s);
+    let k = stated::kind(root, s);
     if k == 3 {
         return true;
     }
@@ -444,17 +518,18 @@ fn leading_good(root: &[u16], s: u16, lead: u16) -> bool
     if k == 1 {
         return true;
     }
-    let n = root::item_count(root, s);
+    let n = stated::item_count(root, s);
     if n == 1 { 1 <= lead } else { false }
 }
 
 // Each set, by the paths counted.
 fn all_leading_good(root: &[u16], leads: &[u16; 16]) -> bool
+    requires { ⌜ length (now root) ≡ root-length (now root) ⌝ }
     requires { ⌜ sets (now root) ≤ 16 ⌝ }
     requires { ⌜ Leads (now root) (now leads) ⌝ }
     ensures { λ r. ⌜ r ≡ all (sets (now (root .entry))) (leading-good (now (root .entry))) ⌝ }
 {
-    let n = root::sets(root);
+    let n = stated::sets(root);
     let mut s: u16 = 1;
     while s <= n {
         let k = (s as usize) - 1;

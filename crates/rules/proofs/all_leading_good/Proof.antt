@@ -19,5 +19,5 @@ pub all-leading-good-spec : {M : Type 1} → statement M
 all-leading-good-spec =
     tie.close
     (tie.spec Inv-loop μ-loop (λ c κs. search needs) (λ c. (search needs, search needs, search needs, search all-start)) (λ c. search needs)
-    (λ c. search needs) (λ c. search needs) (λ c. search needs) (λ c κs. (search needs, search lead-read)) (λ c. search needs) (λ c. search needs)
+    (λ c. search needs) (λ c. search needs) (λ c. search needs) (λ c κs. (search needs, (search needs, (search needs, search lead-read)))) (λ c. search needs) (λ c. search needs)
     (λ c. (search needs, search needs, search needs, search all-turn)) (λ c. search all-stop-of) (λ c. search all-end-of))

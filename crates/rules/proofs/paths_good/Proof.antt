@@ -23,8 +23,8 @@ pub paths-good-spec : {M : Type 1} → statement M
 paths-good-spec =
     tie.close
     (tie.spec Inv-loop μ-loop (λ c κs. search needs) (λ c. (search needs, search needs, search needs, search all-start, search spare-start, search))
-    (λ c κs. search needs) (λ c κs. (search needs, (search needs, (search told, search))))
-    (λ c κs. (search needs, (search needs, (search needs, (search needs, (search needs, (search told, search))))))) (λ c. search needs)
+    (λ c κs. (search needs, (search needs, (search needs, (search, (search needs, (search, search))))))) (λ c κs. (search needs, (search needs, (search needs, (search needs, (search needs, (search told, search)))))))
+    (λ c κs. (search needs, (search needs, (search needs, (search needs, (search needs, (search needs, (search needs, (search told, search))))))))) (λ c. search needs)
     (λ c. search needs)
     (λ c. (search needs, search needs, search needs, all-turn _ _ (c .before .before .before .before .before .before .before .loop .inv .1) _ (c .before .before .before .before .before .path-good .ensures) (c .before .before .before .before .if1 .taken) (c .before .before .before .before .before .before .before .loop .inv .3), search spare-next, search counted-next))
     (λ c. (search all-stop-of, search not-so)) (λ c. (search all-end-of, λ _. search counted-end)))

@@ -21,6 +21,6 @@ pub sets-judged-spec : {M : Type 1} → statement M
 sets-judged-spec =
     tie.close
     (tie.spec Inv-loop μ-loop (λ c κs. search needs) (λ c. (search needs, search needs, search needs, search all-start, search counted-start))
-    (λ c κs. (search needs, (search needs, (search needs, (search needs, search))))) (λ c. search needs) (λ c. search needs)
+    (λ c κs. (search needs, (search needs, (search needs, (search needs, (search needs, (search needs, search))))))) (λ c. search needs) (λ c. search needs)
     (λ c. (search needs, search needs, search needs, search all-turn, search counted-told))
     (λ c. (search all-stop-of, (search not-so, search not-so))) (λ c. (search all-end-of, (λ _. search leads-whole, λ _. search slots-whole))))

@@ -1,0 +1,152 @@
+// The words of a root that is as long as its counts say: each is inside, so its place is not tested.
+ghost use mathlib.Core.Path.{_≡_};
+ghost use Prim.Native.Nat.{_+_, _≤_, _<_};
+ghost use lib.ListN.{length, getD};
+ghost use Rattle.spec.specs.Root.{items, sets, item-type, item-length, description, kind, capacity, item-count, key-item, path-count, set-item, path-master, path-search, path-sort, root-length};
+
+// The word at i.
+pub fn word(root: &[u16], i: usize) -> u16
+    requires { ⌜ i < length (now root) ⌝ }
+    ensures { λ r. ⌜ r ≡ getD (now (root .entry)) i 0 ⌝ }
+{
+    root[i]
+}
+
+// "Word 1: items, 1..64."
+pub fn items(root: &[u16]) -> u16
+    requires { ⌜ length (now root) ≡ root-length (now root) ⌝ }
+    ensures { λ r. ⌜ r ≡ items (now (root .entry)) ⌝ }
+{
+    word(root, 0)
+}
+
+// "Word 2: sets, 1..16."
+pub fn sets(root: &[u16]) -> u16
+    requires { ⌜ length (now root) ≡ root-length (now root) ⌝ }
+    ensures { λ r. ⌜ r ≡ sets (now (root .entry)) ⌝ }
+{
+    word(root, 1)
+}
+
+// The type of item i.
+pub fn item_type(root: &[u16], i: u16) -> u16
+    requires { ⌜ length (now root) ≡ root-length (now root) ⌝ }
+    requires { ⌜ i ≤ items (now root) ⌝ }
+    ensures { λ r. ⌜ r ≡ item-type (now (root .entry)) i ⌝ }
+{
+    word(root, 2 * (i as usize))
+}
+
+// The length of item i in words.
+pub fn item_length(root: &[u16], i: u16) -> u16
+    requires { ⌜ length (now root) ≡ root-length (now root) ⌝ }
+    requires { ⌜ i ≤ items (now root) ⌝ }
+    ensures { λ r. ⌜ r ≡ item-length (now (root .entry)) i ⌝ }
+{
+    word(root, 2 * (i as usize) + 1)
+}
+
+// "Then 33 words per set": where those of set s begin.
+pub fn description(root: &[u16], s: u16) -> usize
+    requires { ⌜ length (now root) ≡ root-length (now root) ⌝ }
+    requires { ⌜ 1 ≤ s ⌝ }
+    requires { ⌜ s ≤ sets (now root) ⌝ }
+    ensures { λ r. ⌜ r ≡ description (now (root .entry)) s ⌝ }
+    ensures { λ r. ⌜ r + 33 ≤ length (now (root .entry)) ⌝ }
+    ensures { λ r. ⌜ r < 4294967296 ⌝ }
+{
+    let n = items(root);
+    2 + 2 * (n as usize) + 33 * ((s as usize) - 1)
+}
+
+// "kind (1 manual master, 2 automatic master, 3 detail)"
+pub fn kind(root: &[u16], s: u16) -> u16
+    requires { ⌜ length (now root) ≡ root-length (now root) ⌝ }
+    requires { ⌜ 1 ≤ s ⌝ }
+    requires { ⌜ s ≤ sets (now root) ⌝ }
+    ensures { λ r. ⌜ r ≡ kind (now (root .entry)) s ⌝ }
+{
+    word(root, description(root, s))
+}
+
+// "capacity 1..4,095"
+pub fn capacity(root: &[u16], s: u16) -> u16
+    requires { ⌜ length (now root) ≡ root-length (now root) ⌝ }
+    requires { ⌜ 1 ≤ s ⌝ }
+    requires { ⌜ s ≤ sets (now root) ⌝ }
+    ensures { λ r. ⌜ r ≡ capacity (now (root .entry)) s ⌝ }
+{
+    word(root, description(root, s) + 1)
+}
+
+// "item count 1..16"
+pub fn item_count(root: &[u16], s: u16) -> u16
+    requires { ⌜ length (now root) ≡ root-length (now root) ⌝ }
+    requires { ⌜ 1 ≤ s ⌝ }
+    requires { ⌜ s ≤ sets (now root) ⌝ }
+    ensures { λ r. ⌜ r ≡ item-count (now (root .entry)) s ⌝ }
+{
+    word(root, description(root, s) + 2)
+}
+
+// "key item number (0 for a detail)"
+pub fn key_item(root: &[u16], s: u16) -> u16
+    requires { ⌜ length (now root) ≡ root-length (now root) ⌝ }
+    requires { ⌜ 1 ≤ s ⌝ }
+    requires { ⌜ s ≤ sets (now root) ⌝ }
+    ensures { λ r. ⌜ r ≡ key-item (now (root .entry)) s ⌝ }
+{
+    word(root, description(root, s) + 3)
+}
+
+// "path count 0..4 (0 for a master)"
+pub fn path_count(root: &[u16], s: u16) -> u16
+    requires { ⌜ length (now root) ≡ root-length (now root) ⌝ }
+    requires { ⌜ 1 ≤ s ⌝ }
+    requires { ⌜ s ≤ sets (now root) ⌝ }
+    ensures { λ r. ⌜ r ≡ path-count (now (root .entry)) s ⌝ }
+{
+    word(root, description(root, s) + 4)
+}
+
+// The j-th item of set s.
+pub fn set_item(root: &[u16], s: u16, j: u16) -> u16
+    requires { ⌜ length (now root) ≡ root-length (now root) ⌝ }
+    requires { ⌜ 1 ≤ s ⌝ }
+    requires { ⌜ s ≤ sets (now root) ⌝ }
+    requires { ⌜ j ≤ 16 ⌝ }
+    ensures { λ r. ⌜ r ≡ set-item (now (root .entry)) s j ⌝ }
+{
+    word(root, description(root, s) + 4 + (j as usize))
+}
+
+// Of path p of set s the master, the search item, the sort item.
+pub fn path_master(root: &[u16], s: u16, p: u16) -> u16
+    requires { ⌜ length (now root) ≡ root-length (now root) ⌝ }
+    requires { ⌜ 1 ≤ s ⌝ }
+    requires { ⌜ s ≤ sets (now root) ⌝ }
+    requires { ⌜ p ≤ 4 ⌝ }
+    ensures { λ r. ⌜ r ≡ path-master (now (root .entry)) s p ⌝ }
+{
+    word(root, description(root, s) + 18 + 3 * (p as usize))
+}
+
+pub fn path_search(root: &[u16], s: u16, p: u16) -> u16
+    requires { ⌜ length (now root) ≡ root-length (now root) ⌝ }
+    requires { ⌜ 1 ≤ s ⌝ }
+    requires { ⌜ s ≤ sets (now root) ⌝ }
+    requires { ⌜ p ≤ 4 ⌝ }
+    ensures { λ r. ⌜ r ≡ path-search (now (root .entry)) s p ⌝ }
+{
+    word(root, description(root, s) + 19 + 3 * (p as usize))
+}
+
+pub fn path_sort(root: &[u16], s: u16, p: u16) -> u16
+    requires { ⌜ length (now root) ≡ root-length (now root) ⌝ }
+    requires { ⌜ 1 ≤ s ⌝ }
+    requires { ⌜ s ≤ sets (now root) ⌝ }
+    requires { ⌜ p ≤ 4 ⌝ }
+    ensures { λ r. ⌜ r ≡ path-sort (now (root .entry)) s p ⌝ }
+{
+    word(root, description(root, s) + 20 + 3 * (p as usize))
+}
