@@ -1,27 +1,23 @@
 -- What each way out of the functions that measure a set shows. Assumes nothing.
 use Prim.Native.Nat.{ℕ, _+_, _*_, _/_, _≤_, _<_, _-_}
 use mathlib.Core.Path.{_≡_, refl, sym, _∙_, ap}
-use mathlib.Core.Bool.{Bool, true}
+use mathlib.Core.Bool.{Bool, true, false}
 use mathlib.Core.List.{List}
-use mathlib.Core.Logic.{dite}
-use native.Mathlib.Decide.{ℕ-discrete}
 use native.Mathlib.Nat.{mul-le-mul}
 use native.Mathlib.Omega.{arith}
-use lib.ListN.{length, getD, set, length-set}
-use lib.Seq.{getD-set-same, getD-set-other}
+use lib.ListN.{length, getD, set}
 use lib.Dec.{eqb}
 use mir.Syntax.{w16, w32}
 use mir.Val.{Fits}
 use borrow.Author.Needs.{fits-under}
 use Rattle.spec.specs.Words.{total}
-use Rattle.spec.specs.Root.{sets, item-length, kind, capacity, item-count, path-count, set-item, leading, root-good}
+use Rattle.spec.specs.Root.{sets, item-length, kind, capacity, path-count, set-item, leading, root-length, root-good}
 use Rattle.spec.specs.Layout.{items-length, entry-length, front-words, record-words, size-of, start-of, area-length}
 use Rattle.root.specs.declared.Plan.{Plan}
-use Rattle.root.specs.Ranges.{total-more}
-use Rattle.root.specs.Plan.{Leads, Slots, Starts, Planned}
+use Rattle.root.specs.Ranges.{never-both, total-more}
+use Rattle.root.specs.Plan.{Leads, Slots, Entries, Starts, Planned, Filled, filled-turn}
 use Rattle.root.specs.Good.{root-facts, few-paths, leads-few}
 use Rattle.root.specs.Sizes.{entry-fits, front-detail, front-master, size-fits, start-next, start-fits}
-use Rattle.layout.specs.Views.{Started}
 
 -- ---- the items
 module _ (root : List ℕ) (s : ℕ) where
@@ -43,20 +39,6 @@ module _ (root : List ℕ) (s : ℕ) where
 
 -- ---- a good root's lengths fit
 module _ (root : List ℕ) (s : ℕ) (good : root-good root ≡ true) (low : 1 ≤ s) (high : s ≤ sets root) where
-  module _ (n e : ℕ) (p : n ≡ item-count root s) (q : e ≡ items-length root s n) where
-    as-entry : e ≡ entry-length root s
-    unfolding entry-length
-    as-entry = q ∙ rw p
-
-    pub entry-is : e ≡ entry-length root s
-    entry-is = as-entry
-
-    pub entry-small : e ≤ 512
-    entry-small = let a : e ≡ entry-length root s = as-entry in let b : entry-length root s ≤ 512 = entry-fits root good s low high in omega arith
-
-    pub entry-word : Fits w16 e
-    entry-word = let a : e ≤ 512 = entry-small in fits-under w16 e 65536 (omega arith) tt
-
   module _ (n : ℕ) (p : n ≡ path-count root s) where
     pub links-word : Fits w16 (4 * n)
     links-word =
@@ -95,6 +77,15 @@ module _ (root : List ℕ) (s : ℕ) (good : root-good root ≡ true) (low : 1 �
     pub size-small : (v : ℕ) → v ≡ cap * (front + entry) → 2 + (cap + 15) / 16 + v ≤ 2281173
     size-small v e = rw (size-is v e) (size-fits root good s low high)
 
+-- ---- the entries that are measured
+module _ (root entries : List ℕ) (s n : ℕ) (g : Entries root entries) (e : n ≡ sets root) (a : 1 ≤ s) (b : s ≤ n) where
+  pub entry-read : getD entries (s - 1) 0 ≡ entry-length root s
+  unfolding Entries
+  entry-read = g s a (omega arith)
+
+  pub entry-read-small : root-good root ≡ true → getD entries (s - 1) 0 ≤ 512
+  entry-read-small good = rw entry-read (entry-fits root good s a (omega arith))
+
 -- ---- a product of two words
 pub times-small : (a b : ℕ) → Fits w16 a → Fits w16 b → a * b ≤ 4294836225
 times-small a b p q =
@@ -108,18 +99,10 @@ pub times-fits : (a b : ℕ) → Fits w16 a → Fits w16 b → Fits w32 (a * b)
 times-fits a b p q = let x : a * b ≤ 4294836225 = times-small a b p q in fits-under w32 (a * b) 4294967296 (omega arith) tt
 
 -- ---- the starts
-module _ (root : List ℕ) (s at : ℕ) (starts : List ℕ) (g : Started root s starts) where
-  pub started-turn : (n : ℕ) → 1 ≤ s → s ≤ n → n ≡ sets root → sets root ≤ 16 → at ≡ start-of root s → Started root (s + 1) (set starts (s - 1) at)
-  started-turn n a b d c e =
-      record {
-        long = length-set starts (s - 1) at ∙ g .long;
-        before = λ t l h.
-            dite (ℕ-discrete t s) (λ z. rw (z, getD-set-same starts (s - 1) at 0 (rw (g .long) (omega arith))) e)
-            (λ z. rw (getD-set-other starts (s - 1) (t - 1) at 0 (λ y. z (omega arith))) (g .before t l (omega arith)));
-      }
-
-pub started-start : (root starts : List ℕ) → length starts ≡ 16 → Started root 1 starts
-started-start root starts e = record { long = e; before = λ t l h. absurd (omega arith) }
+pub started-turn :
+    (root : List ℕ) (s at : ℕ) (starts : List ℕ) (n : ℕ) → Filled (start-of root) s starts → 1 ≤ s → s ≤ n → n ≡ sets root → sets root ≤ 16 →
+    at ≡ start-of root s → Filled (start-of root) (s + 1) (set starts (s - 1) at)
+started-turn root s at starts n g a b d c e = filled-turn (start-of root) s at starts g a (omega arith) e
 
 pub start-first : (root : List ℕ) → 0 ≡ start-of root 1
 unfolding start-of total
@@ -133,15 +116,17 @@ module _ (root : List ℕ) (s n : ℕ) (p : n ≡ sets root) (a : n < s) (b : s 
   unfolding start-of area-length
   start-last at q = let e : s - 1 ≡ sets root = omega arith in q ∙ rw e
 
-  pub starts-whole : (starts : List ℕ) → Started root s starts → Starts root starts
+  pub starts-whole : (starts : List ℕ) → Filled (start-of root) s starts → Starts root starts
   unfolding Starts
   starts-whole starts g t l h = g .before t l (omega arith)
 
 pub planned :
-    (root leads slots starts : List ℕ) (b : Bool) → b ≡ root-good root → b ≡ true → (b ≡ true → Leads root leads) → (b ≡ true → Slots root slots) →
-    Starts root starts → Planned root (record { leads = leads; slots = slots; starts = starts })
-unfolding Leads Slots Starts
-planned root leads slots starts b p e f g h = record { good = sym p ∙ e; leads = f e; slots = g e; starts = h }
+    (root leads slots entries starts : List ℕ) (b : Bool) → b ≡ root-good root → (b ≡ true → Leads root leads) → (b ≡ true → Slots root slots) →
+    (b ≡ true → Entries root entries) → (b ≡ true → Starts root starts) → b ≡ true →
+    Planned root (record { leads = leads; slots = slots; entries = entries; starts = starts })
+unfolding Leads Slots Entries Starts
+planned root leads slots entries starts b p f g h i e =
+    record { good = sym p ∙ e; leads = f e; slots = g e; entries = h e; starts = i e }
 
 -- ---- the plan read again
 module _ (root : List ℕ) (plan : Plan) (g : Planned root plan) (s : ℕ) (low : 1 ≤ s) (high : s ≤ sets root) where
@@ -153,6 +138,12 @@ module _ (root : List ℕ) (plan : Plan) (g : Planned root plan) (s : ℕ) (low 
 
   pub plan-lead-few : getD (plan .leads) (s - 1) 0 ≤ 8
   plan-lead-few = rw plan-lead (leads-few root (g .good) s)
+
+  pub plan-entry : getD (plan .entries) (s - 1) 0 ≡ entry-length root s
+  plan-entry = g .entries s low high
+
+  pub plan-entry-small : getD (plan .entries) (s - 1) 0 ≤ 512
+  plan-entry-small = rw plan-entry (entry-fits root (g .good) s low high)
 
   pub plan-start : getD (plan .starts) (s - 1) 0 ≡ start-of root s
   plan-start = g .starts s low high
@@ -167,8 +158,15 @@ module _ (root : List ℕ) (plan : Plan) (g : Planned root plan) (s : ℕ) (low 
   plan-good = g .good
 
 -- ---- the verdict
-pub good-told : (root : List ℕ) (b : Bool) → b ≡ root-good root → b ≡ true → true ≡ root-good root
-good-told root b p e = sym e ∙ p
+module _ (root : List ℕ) (b : Bool) (p : b ≡ false) (q : b ≡ true) where
+  pub size-untold : (area : ℕ) (z : Bool) → z ≡ eqb area (area-length root)
+  size-untold area z = absurd (never-both b p q)
+
+  pub starts-untold : (starts : List ℕ) → Starts root starts
+  starts-untold starts = absurd (never-both b p q)
+
+pub good-long : (root : List ℕ) → root-good root ≡ true → length root ≡ root-length root
+good-long root good = root-facts root good .long
 
 pub good-sets : (root : List ℕ) (b : Bool) → b ≡ root-good root → b ≡ true → sets root ≤ 16
 good-sets root b p e = root-facts root (sym p ∙ e) .sets-high

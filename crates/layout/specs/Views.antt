@@ -4,7 +4,7 @@ use Prim.Native.Nat.{ℕ, _+_, _*_, _≤_, _<_, _-_}
 use mathlib.Core.Path.{_≡_}
 use mathlib.Core.Bool.{true}
 use mathlib.Core.List.{List, _++_}
-use lib.ListN.{length, getD, take}
+use lib.ListN.{take}
 use lib.Dec.{ltb}
 use Rattle.spec.specs.declared.Shape.{Shape}
 use Rattle.spec.specs.declared.Master.{Master}
@@ -14,11 +14,6 @@ use Rattle.spec.specs.Layout.{entry-length, start-of, field-of, shape-of, maste
 use Rattle.layout.specs.declared.Heads.{Heads}
 use Rattle.layout.specs.declared.Key.{Key}
 use Rattle.layout.specs.declared.Sides.{Sides}
-
--- the sets before s have their starts
-pub record Started (root : List ℕ) (s : ℕ) (starts : List ℕ) : Type 0 where
-  pub long : length starts ≡ 16
-  pub before : (t : ℕ) → 1 ≤ t → t < s → getD starts (t - 1) 0 ≡ start-of root t
 
 -- where a set stands
 pub record Shaped (root : List ℕ) (s : ℕ) (r : Shape) : Type 0 where

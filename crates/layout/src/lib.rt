@@ -7,7 +7,7 @@ ghost use lib.Dec.{eqb};
 ghost use lib.ListN.{length, take};
 ghost use Rattle.spec.specs.Root.{sets, kind, path-count, path-master, leading, has-item, root-good};
 ghost use Rattle.spec.specs.Layout.{items-length, entry-length, item-number, field-of, head-of, sort-of, heads-of, front-words, size-of, start-of, area-length};
-ghost use Rattle.root.specs.Plan.{Leads, Starts, Planned};
+ghost use Rattle.root.specs.Plan.{Leads, Entries, Starts, Planned};
 ghost use Rattle.layout.specs.Views.{Shaped, Keyed, Mastered, Sided, Pathed, Headed};
 
 // The length of the first n items of set s.
@@ -25,18 +25,6 @@ fn items_length(root: &[u16], s: u16, n: u16) -> u32
     sum
 }
 
-// The words of an entry of set s.
-fn entry_length(root: &[u16], s: u16) -> u16
-    requires { ⌜ root-good (now root) ≡ true ⌝ }
-    requires { ⌜ 1 ≤ s ⌝ }
-    requires { ⌜ s ≤ sets (now root) ⌝ }
-    ensures { λ r. ⌜ r ≡ entry-length (now (root .entry)) s ⌝ }
-    ensures { λ r. ⌜ r ≤ 512 ⌝ }
-{
-    let n = root::item_count(root, s);
-    items_length(root, s, n) as u16
-}
-
 // "Detail record: for each path a backward and a forward link"; "Master record: five synonym words; five words of chain head
 // for each path leading here"
 fn front_words(root: &[u16], s: u16, lead: u16) -> u16
@@ -47,8 +35,8 @@ fn front_words(root: &[u16], s: u16, lead: u16) -> u16
     ensures { λ r. ⌜ r ≡ front-words (now (root .entry)) s ⌝ }
     ensures { λ r. ⌜ r ≤ 45 ⌝ }
 {
-    if root::kind(root, s) == 3 {
-        4 * root::path_count(root, s)
+    if stated::kind(root, s) == 3 {
+        4 * stated::path_count(root, s)
     } else {
         5 + 5 * lead
     }
@@ -63,25 +51,27 @@ fn times(a: u16, b: u16) -> u32
 }
 
 // The words of set s: "two words .., then the map, then the records".
-fn size_of(root: &[u16], s: u16, lead: u16) -> u32
+fn size_of(root: &[u16], s: u16, lead: u16, entry: u16) -> u32
     requires { ⌜ root-good (now root) ≡ true ⌝ }
     requires { ⌜ 1 ≤ s ⌝ }
     requires { ⌜ s ≤ sets (now root) ⌝ }
     requires { ⌜ lead ≡ leading (now root) s (sets (now root)) ⌝ }
+    requires { ⌜ entry ≡ entry-length (now root) s ⌝ }
+    requires { ⌜ entry ≤ 512 ⌝ }
     ensures { λ r. ⌜ r ≡ size-of (now (root .entry)) s ⌝ }
     ensures { λ r. ⌜ r ≤ 2281173 ⌝ }
 {
-    let cap = root::capacity(root, s);
+    let cap = stated::capacity(root, s);
     let front = front_words(root, s, lead);
-    let entry = entry_length(root, s);
     2 + ((cap as u32) + 15) / 16 + times(cap, front + entry)
 }
 
 // "Sets follow one another.": the start of each, and the area's length.
-fn all_started(root: &[u16], leads: &[u16; 16], starts: &mut [u32; 16]) -> u32
+fn all_started(root: &[u16], leads: &[u16; 16], entries: &[u16; 16], starts: &mut [u32; 16]) -> u32
     requires { ⌜ root-good (now root) ≡ true ⌝ }
     requires { ⌜ sets (now root) ≤ 16 ⌝ }
     requires { ⌜ Leads (now root) (now leads) ⌝ }
+    requires { ⌜ Entries (now root) (now entries) ⌝ }
     requires { ⌜ length (now starts) ≡ 16 ⌝ }
     ensures { λ r. ⌜ r ≡ area-length (now (root .entry)) ⌝ }
     ensures { λ r. ⌜ Starts (now (root .entry)) (now (starts .exit)) ⌝ }
@@ -92,11 +82,36 @@ fn all_started(root: &[u16], leads: &[u16; 16], starts: &mut [u32; 16]) -> u32
     while s <= n {
         let k = (s as usize) - 1;
         let lead = leads[k];
+        let entry = entries[k];
         starts[k] = at;
-        at += size_of(root, s, lead);
+        at += size_of(root, s, lead, entry);
         s += 1;
     }
     at
+}
+
+// Of a good root: whether the area is as long as it means; and the start of each set.
+fn sized(
+    root: &[u16],
+    area: usize,
+    good: bool,
+    leads: &[u16; 16],
+    entries: &[u16; 16],
+    starts: &mut [u32; 16],
+) -> bool
+    requires { ⌜ good ≡ root-good (now root) ⌝ }
+    requires { ⌜ (good ≡ true → Leads (now root) (now leads)) ⌝ }
+    requires { ⌜ (good ≡ true → Entries (now root) (now entries)) ⌝ }
+    requires { ⌜ length (now starts) ≡ 16 ⌝ }
+    ensures { λ r. ⌜ (good ≡ true → r ≡ eqb area (area-length (now (root .entry)))) ⌝ }
+    ensures { λ r. ⌜ (good ≡ true → Starts (now (root .entry)) (now (starts .exit))) ⌝ }
+{
+    if good {
+        let total = all_started(root, leads, entries, starts);
+        area == (total as usize)
+    } else {
+        false
+    }
 }
 
 // Whether the root keeps its rules, whether the area is as long as it means, and if so the plan.
@@ -113,30 +128,20 @@ pub fn known(root: &[u16], area: usize) -> Verdict
 {
     let mut leads = [0u16; 16];
     let mut slots = [0u16; 64];
+    let mut entries = [0u16; 16];
     let mut starts = [0u32; 16];
-    if rules::root_judged(root, &mut leads, &mut slots) {
-        let total = all_started(root, &leads, &mut starts);
-        let plan = root::Plan {
-            leads,
-            slots,
-            starts,
-        };
-        Verdict {
-            root: true,
-            size: area == (total as usize),
-            plan,
-        }
-    } else {
-        let plan = root::Plan {
-            leads,
-            slots,
-            starts,
-        };
-        Verdict {
-            root: false,
-            size: false,
-            plan,
-        }
+    let good = rules::root_judged(root, &mut leads, &mut slots, &mut entries);
+    let size = sized(root, area, good, &leads, &entries, &mut starts);
+    let plan = root::Plan {
+        leads,
+        slots,
+        entries,
+        starts,
+    };
+    Verdict {
+        root: good,
+        size,
+        plan,
     }
 }
 
@@ -191,6 +196,18 @@ fn lead_of(root: &[u16], plan: root::Plan, s: u16) -> u16
     plan.leads[k]
 }
 
+// The words of an entry of set s, by the plan.
+fn entry_of(root: &[u16], plan: root::Plan, s: u16) -> u16
+    requires { ⌜ Planned (now root) plan ⌝ }
+    requires { ⌜ 1 ≤ s ⌝ }
+    requires { ⌜ s ≤ sets (now root) ⌝ }
+    ensures { λ r. ⌜ r ≡ entry-length (now (root .entry)) s ⌝ }
+    ensures { λ r. ⌜ r ≤ 512 ⌝ }
+{
+    let k = (s as usize) - 1;
+    plan.entries[k]
+}
+
 // Where set s starts, by the plan.
 fn start_of(root: &[u16], plan: root::Plan, s: u16) -> u32
     requires { ⌜ Planned (now root) plan ⌝ }
@@ -203,19 +220,20 @@ fn start_of(root: &[u16], plan: root::Plan, s: u16) -> u32
     plan.starts[k]
 }
 
-// Where set s stands, from its start and the paths that lead to it.
-fn laid(root: &[u16], s: u16, start: u32, lead: u16) -> spec::Shape
+// Where set s stands, from its start, the paths that lead to it and the words of its entry.
+fn laid(root: &[u16], s: u16, start: u32, lead: u16, entry: u16) -> spec::Shape
     requires { ⌜ root-good (now root) ≡ true ⌝ }
     requires { ⌜ 1 ≤ s ⌝ }
     requires { ⌜ s ≤ sets (now root) ⌝ }
     requires { ⌜ start ≡ start-of (now root) s ⌝ }
     requires { ⌜ start ≤ 34217595 ⌝ }
     requires { ⌜ lead ≡ leading (now root) s (sets (now root)) ⌝ }
+    requires { ⌜ entry ≡ entry-length (now root) s ⌝ }
+    requires { ⌜ entry ≤ 512 ⌝ }
     ensures { λ r. ⌜ Shaped (now (root .entry)) s r ⌝ }
 {
-    let cap = root::capacity(root, s);
+    let cap = stated::capacity(root, s);
     let front = front_words(root, s, lead);
-    let entry = entry_length(root, s);
     let records = start + 2 + ((cap as u32) + 15) / 16;
     spec::Shape {
         start,
@@ -237,7 +255,8 @@ pub fn shape_of(root: &[u16], plan: root::Plan, s: u16) -> spec::Shape
 {
     let start = start_of(root, plan, s);
     let lead = lead_of(root, plan, s);
-    laid(root, s, start, lead)
+    let entry = entry_of(root, plan, s);
+    laid(root, s, start, lead, entry)
 }
 
 // A master's kind and key.

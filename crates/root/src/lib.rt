@@ -111,11 +111,12 @@ pub fn path_sort(root: &[u16], s: u16, p: u16) -> u16
     words::word(root, description(root, s) + 20 + 3 * (p as usize))
 }
 
-// What is counted from a root once. For set s, at s - 1: the paths leading to it, and its start in the area. For path p of
-// set s, at 4 (s - 1) + p - 1: the number of its head among those of its master.
+// What is counted from a root once. For set s, at s - 1: the paths leading to it, the words of its entry, and its start in
+// the area. For path p of set s, at 4 (s - 1) + p - 1: the number of its head among those of its master.
 pub struct Plan {
     pub leads: [u16; 16],
     pub slots: [u16; 64],
+    pub entries: [u16; 16],
     pub starts: [u32; 16],
 }
 

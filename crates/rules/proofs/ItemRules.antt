@@ -1,7 +1,7 @@
 -- What each way out of the functions that judge a root shows. Assumes nothing.
 use Prim.Native.Nat.{ℕ, zero, suc, _+_, _*_, _^_, _≤_, _<_, _-_}
-use mathlib.Core.Path.{_≡_, refl, sym, _∙_}
-use mathlib.Core.Bool.{Bool, true, false, _&&_, _||_}
+use mathlib.Core.Path.{_≡_, refl, sym, _∙_, ap}
+use mathlib.Core.Bool.{Bool, true, false, _&&_, _||_, not}
 use mathlib.Core.List.{List}
 use mathlib.Core.Logic.{dite}
 use native.Mathlib.Omega.{arith}
@@ -10,11 +10,15 @@ use native.Mathlib.Numerals.{add-one}
 use lib.ListN.{length, getD}
 use lib.Dec.{leb, eqb}
 use lib.Bits.{bitOr, bitAnd, or-zero-l, or-add-and, and-le-r}
+use mir.Syntax.{w16}
+use mir.Val.{Fits}
+use borrow.Author.Needs.{fits-under}
 use borrow.Author.Tests.{eq-eqb, ne-eqb, le-leb, lt-leb}
-use Rattle.spec.specs.Words.{all, any, within}
+use Rattle.spec.specs.Words.{all, any, within, total}
 use Rattle.spec.specs.Root.{items, sets, root-length, item-type, item-length, kind, key-item, path-count, item-count, set-item, item-good, among, item-listed, kind-good, description, capacity, set-item-good, set-good}
-use Rattle.root.specs.Ranges.{refused, never-both, or-none, any-more, and-both, and-false, same-test, all-at, all-of, all-fails}
-use Rattle.root.specs.Good.{place-listed}
+use Rattle.spec.specs.Layout.{items-length, entry-length}
+use Rattle.root.specs.Ranges.{and-left, total-more, refused, never-both, or-none, any-more, and-both, and-false, same-test, all-at, all-of, all-fails}
+use Rattle.root.specs.Good.{within-facts, length-fits, place-listed}
 use Rattle.root.proofs.Loops.{all-more}
 use Rattle.rules.specs.Rules.{framed, longest, unused, items-good, held, Holds}
 use Rattle.rules.proofs.Bits.{held-none, held-with}
@@ -130,52 +134,73 @@ unfolding framed root-length
 length-tested root i n p q a b c d = rw (← p, ← q, le-leb 1 i a, le-leb i 64 b, le-leb 1 n c, le-leb n 16 d)
 
 -- ---- a set's items
-module _ (root : List ℕ) (s j x : ℕ) (l : 1 ≤ j) (p : x ≡ set-item root s j) where
-  module _ (n : ℕ) (h : j ≤ n) where
-    pub listed-low : x < 1 → false ≡ all n (item-listed root s)
-    listed-low a = sym (all-fails (item-listed root s) n j l h low)
-      where
-        low : item-listed root s j ≡ false
-        low = unfold item-listed in rw (← p, lt-leb 1 x a)
+module _ (root : List ℕ) (s j x : ℕ) (p : x ≡ set-item root s j) where
+  pub listed-low : x < 1 → false ≡ item-listed root s j
+  unfolding item-listed
+  listed-low a = rw (← p, lt-leb 1 x a)
 
-    pub listed-high : (top : ℕ) → top ≡ items root → top < x → false ≡ all n (item-listed root s)
-    listed-high top q a = sym (all-fails (item-listed root s) n j l h high)
-      where
-        out : within 1 (items root) x ≡ false
-        out = and-false (leb 1 x) (leb x (items root)) (rw (← q) (lt-leb x top a))
+  module _ (top : ℕ) (q : top ≡ items root) where
+    pub listed-high : top < x → false ≡ item-listed root s j
+    unfolding item-listed
+    listed-high a = rw (← p, ← q, and-false (leb 1 x) (leb x top) (lt-leb x top a))
 
-        high : item-listed root s j ≡ false
-        high = unfold item-listed in rw (← p, out)
+    module _ (a : 1 ≤ x) (k : x ≤ top) (bits : ℕ) (g : Holds root s (j - 1) bits) (b : Bool) (r : b ≡ held bits x) where
+      pub listed-twice : b ≡ true → false ≡ item-listed root s j
+      unfolding item-listed Holds
+      listed-twice t = rw (← p, sym (g x) ∙ sym r ∙ t) (sym (and-false (within 1 (items root) x) false refl))
 
-    pub listed-twice : (bits : ℕ) (b : Bool) → Holds root s (j - 1) bits → b ≡ held bits x → b ≡ true → false ≡ all n (item-listed root s)
-    unfolding Holds
-    listed-twice bits b g q t = sym (all-fails (item-listed root s) n j l h twice)
-      where
-        there : among root s (j - 1) x ≡ true
-        there = sym (g x) ∙ sym q ∙ t
+      pub listed-once : b ≡ false → true ≡ item-listed root s j
+      unfolding item-listed Holds
+      listed-once t = rw (← p, ← q, le-leb 1 x a, le-leb x top k, sym (g x) ∙ sym r ∙ t)
 
-        twice : item-listed root s j ≡ false
-        twice = unfold item-listed in rw (← p, there) (and-false (within 1 (items root) x) false refl)
+  module _ (b : Bool) (q : b ≡ item-listed root s j) (e : b ≡ true) where
+    there : (1 ≤ x) × (x ≤ items root)
+    unfolding item-listed
+    there =
+        rw (← p)
+        at (within-facts 1 (items root) (set-item root s j)
+        (and-left (within 1 (items root) (set-item root s j)) (not (among root s (j - 1) (set-item root s j))) (sym q ∙ e)))
 
-  module _ (top bits : ℕ) (q : top ≡ items root) (a : 1 ≤ x) (k : x ≤ top) where
-    pub listed-turn :
-        (b : Bool) → Holds root s (j - 1) bits → b ≡ held bits x → b ≡ false → all (j - 1) (item-listed root s) ≡ true →
-        all (j + 1 - 1) (item-listed root s) ≡ true
-    unfolding Holds
-    listed-turn b g r t e = all-more (item-listed root s) j l e once
-      where
-        absent : among root s (j - 1) x ≡ false
-        absent = sym (g x) ∙ sym r ∙ t
+    pub there-low : 1 ≤ x
+    there-low = there .0
 
-        once : item-listed root s j ≡ true
-        once = unfold item-listed in rw (← p, ← q, le-leb 1 x a, le-leb x top k, absent)
+    pub there-high : x ≤ items root
+    there-high = there .1
 
-    pub holds-turn : (v : ℕ) → v ≡ 2 ^ (x - 1) → items root ≤ 64 → Holds root s (j - 1) bits → Holds root s (j + 1 - 1) (bitOr bits v)
+    pub there-few : items root ≤ 64 → x ≤ 64
+    there-few h = let k : x ≤ items root = there-high in omega arith
+
+    pub holds-turn : (bits v : ℕ) → 1 ≤ j → v ≡ 2 ^ (x - 1) → items root ≤ 64 → Holds root s (j - 1) bits → Holds root s (j + 1 - 1) (bitOr bits v)
     unfolding Holds among
-    holds-turn v r u g i =
+    holds-turn bits v l r u g i =
         let m : j + 1 - 1 ≡ suc (j - 1) = omega arith in
         let f : j ≡ suc (j - 1) = omega arith in
-        rw (r, held-with bits x i a (omega arith), g i, m, any-more _ (suc (j - 1)) (j - 1) refl, ← f, ← p)
+        rw (r, held-with bits x i there-low (there-few u), g i, m, any-more _ (suc (j - 1)) (j - 1) refl, ← f, ← p)
+
+    module _ (good : all (items root) (item-good root) ≡ true) (l : ℕ) (r : l ≡ item-length root x) (sum : ℕ) (u : sum ≤ 32 * (j - 1)) where
+      short : l ≤ 32
+      short = rw r (length-fits root x (all-at (item-good root) (items root) x good there-low there-high) .1)
+
+      pub length-fit : (n : ℕ) → j ≤ n → n ≤ 16 → Fits w16 (sum + l)
+      length-fit n h k = let a : l ≤ 32 = short in fits-under w16 (sum + l) 65536 (omega arith) tt
+
+      pub length-few : 1 ≤ j → sum + l ≤ 32 * (j + 1 - 1)
+      length-few h = let a : l ≤ 32 = short in omega arith
+
+    pub length-turn :
+        (l sum : ℕ) → 1 ≤ j → l ≡ item-length root x → sum ≡ items-length root s (j - 1) → sum + l ≡ items-length root s (j + 1 - 1)
+    unfolding items-length
+    length-turn l sum h r g =
+        let m : j + 1 - 1 ≡ j = omega arith in
+        let f : l ≡ item-length root (set-item root s j) = r ∙ ap (item-length root) p in
+        rw (m, total-more (λ k. item-length root (set-item root s k)) j (j - 1) (omega arith), g, f)
+
+pub length-start : (root : List ℕ) (s : ℕ) → 0 ≡ items-length root s (1 - 1)
+unfolding items-length total
+length-start root s = refl
+
+pub length-end : (root : List ℕ) (s j n sum : ℕ) → n < j → j ≤ n + 1 → sum ≡ items-length root s (j - 1) → sum ≡ items-length root s n
+length-end root s j n sum a b g = let e : j - 1 ≡ n = omega arith in rw e at g
 
 pub holds-start : (root : List ℕ) (s : ℕ) → Holds root s (1 - 1) 0
 unfolding Holds among any
@@ -227,9 +252,16 @@ module _ (root : List ℕ) (s : ℕ) where
   pub holds-told : (n bits : ℕ) (b : Bool) → (b ≡ true → Holds root s n bits) → b ≡ true → Holds root s n bits
   holds-told n bits b f e = f e
 
+  pub length-told : (l : ℕ) (b : Bool) → (b ≡ true → l ≡ entry-length root s) → b ≡ true → l ≡ entry-length root s
+  length-told l b f e = f e
+
   module _ (n : ℕ) (p : n ≡ item-count root s) where
     pub holds-counted : (bits : ℕ) (b : Bool) → (b ≡ true → Holds root s n bits) → b ≡ true → Holds root s (item-count root s) bits
     holds-counted bits b f e = rw (← p) (f e)
+
+    pub length-counted : (l : ℕ) (b : Bool) → (b ≡ true → l ≡ items-length root s n) → b ≡ true → l ≡ entry-length root s
+    unfolding entry-length
+    length-counted l b f e = f e ∙ rw p
 
     pub items-none : n < 1 → false ≡ items-good root s
     unfolding items-good

@@ -49,6 +49,10 @@ module _ (root : List ℕ) where
       unfolding head-good
       frame = and-left (framed root) (all (items root) (item-good root)) (sym p ∙ e)
 
+      pub head-all : all (items root) (item-good root) ≡ true
+      unfolding head-good
+      head-all = and-right (framed root) (all (items root) (item-good root)) (sym p ∙ e)
+
       pub head-items : items root ≤ 64
       head-items = framed-items true (sym frame) refl
 

@@ -6,12 +6,13 @@ use mathlib.Core.List.{List}
 use mathlib.Core.Logic.{dite}
 use native.Mathlib.Decide.{decLe, ℕ-discrete}
 use native.Mathlib.Omega.{arith}
-use lib.ListN.{length, getD, replicate}
+use lib.ListN.{length, getD, set, replicate}
 use lib.Dec.{leb, eqb}
 use borrow.Author.Tests.{ne-eqb, le-leb, lt-leb}
 use Rattle.spec.specs.Words.{all, total}
 use Rattle.spec.specs.Root.{sets, kind, item-count, path-count, path-master, path-search, path-sort, description, leading, leading-from, set-good, path-good, path-empty, set-path-good, leading-good}
-use Rattle.root.specs.Plan.{Leads, Slots}
+use Rattle.spec.specs.Layout.{entry-length}
+use Rattle.root.specs.Plan.{Leads, Slots, Entries, Filled, filled-turn}
 use Rattle.root.specs.Ranges.{and-left, and-right, refused, never-both, same-test, all-at, all-of}
 use Rattle.root.specs.Good.{triple-path, paths-few, leading-step, leading-from-none}
 use Rattle.rules.specs.Rules.{unused, set-judged}
@@ -206,6 +207,19 @@ leads-told root leads b f e = f e
 
 pub slots-told : (root slots : List ℕ) (b : Bool) → (b ≡ true → Slots root slots) → b ≡ true → Slots root slots
 slots-told root slots b f e = f e
+
+-- ---- the entries
+pub entries-turn :
+    (root : List ℕ) (s l : ℕ) (b : Bool) (xs : List ℕ) → Filled (entry-length root) s xs → 1 ≤ s → s ≤ 16 → (b ≡ true → l ≡ entry-length root s) →
+    b ≡ true → Filled (entry-length root) (s + 1) (set xs (s - 1) l)
+entries-turn root s l b xs g a h f e = filled-turn (entry-length root) s l xs g a h (f e)
+
+pub entries-whole : (root xs : List ℕ) (s n : ℕ) → n ≡ sets root → n < s → Filled (entry-length root) s xs → Entries root xs
+unfolding Entries
+entries-whole root xs s n p a g t l h = g .before t l (omega arith)
+
+pub entries-told : (root entries : List ℕ) (b : Bool) → (b ≡ true → Entries root entries) → b ≡ true → Entries root entries
+entries-told root entries b f e = f e
 
 pub lead-read :
     (root leads : List ℕ) (s n : ℕ) → Leads root leads → n ≡ sets root → 1 ≤ s → s ≤ n → getD leads (s - 1) 0 ≡ leading root s (sets root)

@@ -6,7 +6,8 @@ ghost use lib.ListN.{length, replicate};
 ghost use Rattle.spec.specs.Words.{all};
 ghost use Rattle.spec.specs.Root.{items, sets, item-type, description, item-count, key-item, path-count, is-unsigned, is-text, item-good, item-listed, kind-good, set-good, names-master, fits-key, sort-good, path-good, leading, leading-good, root-length, root-good};
 ghost use Rattle.rules.specs.Rules.{framed, longest, head-good, unused, items-good, set-judged, held, Holds, Spare, Counted};
-ghost use Rattle.root.specs.Plan.{Leads, Slots};
+ghost use Rattle.spec.specs.Layout.{items-length, entry-length};
+ghost use Rattle.root.specs.Plan.{Leads, Slots, Entries, Filled};
 
 // Whether item i, a number up to 64, is among those in the bits of w.
 fn holds_one(w: u64, i: u16) -> bool
@@ -143,49 +144,68 @@ fn blank(root: &[u16], at: usize, n: usize) -> bool
     }
 }
 
-// A set's items in bits, item i in bit i - 1, and whether the rules about them hold.
+// A set's items in bits, item i in bit i - 1, their words together, and whether the rules about them hold.
 struct Listed {
     good: bool,
     bits: u64,
+    length: u16,
 }
 
-// "a set's items exist and differ": the first n of set s.
+// "a set's items exist and differ": the j-th of set s, beside those before it.
+fn item_listed(root: &[u16], s: u16, j: u16, bits: u64) -> bool
+    requires { ⌜ length (now root) ≡ root-length (now root) ⌝ }
+    requires { ⌜ 1 ≤ s ⌝ }
+    requires { ⌜ s ≤ sets (now root) ⌝ }
+    requires { ⌜ items (now root) ≤ 64 ⌝ }
+    requires { ⌜ j ≤ 16 ⌝ }
+    requires { ⌜ Holds (now root) s (j - 1) bits ⌝ }
+    ensures { λ r. ⌜ r ≡ item-listed (now (root .entry)) s j ⌝ }
+{
+    let top = stated::items(root);
+    let x = stated::set_item(root, s, j);
+    if x < 1 {
+        return false;
+    }
+    if top < x {
+        return false;
+    }
+    if holds_one(bits, x) { false } else { true }
+}
+
+// The first n items of set s.
 fn first_items(root: &[u16], s: u16, n: u16) -> Listed
     requires { ⌜ length (now root) ≡ root-length (now root) ⌝ }
     requires { ⌜ 1 ≤ s ⌝ }
     requires { ⌜ s ≤ sets (now root) ⌝ }
     requires { ⌜ n ≤ 16 ⌝ }
     requires { ⌜ items (now root) ≤ 64 ⌝ }
+    requires { ⌜ all (items (now root)) (item-good (now root)) ≡ true ⌝ }
     ensures { λ r. ⌜ r .good ≡ all n (item-listed (now (root .entry)) s) ⌝ }
     ensures { λ r. ⌜ (r .good ≡ true → Holds (now (root .entry)) s n (r .bits)) ⌝ }
+    ensures { λ r. ⌜ (r .good ≡ true → r .length ≡ items-length (now (root .entry)) s n) ⌝ }
 {
-    let top = stated::items(root);
     let mut bits: u64 = 0;
+    let mut length: u16 = 0;
     let mut j: u16 = 1;
     while j <= n {
-        let x = stated::set_item(root, s, j);
-        if x < 1 {
+        if item_listed(root, s, j, bits) {
+            let x = stated::set_item(root, s, j);
+            bits = bits | one(x);
+            length += stated::item_length(root, x);
+            j += 1;
+        } else {
             return Listed {
                 good: false,
                 bits: 0,
+                length: 0,
             };
         }
-        if top < x {
-            return Listed {
-                good: false,
-                bits: 0,
-            };
-        }
-        if holds_one(bits, x) {
-            return Listed {
-                good: false,
-                bits: 0,
-            };
-        }
-        bits = bits | one(x);
-        j += 1;
     }
-    Listed { good: true, bits }
+    Listed {
+        good: true,
+        bits,
+        length,
+    }
 }
 
 // "item count 1..16", and the 16 item numbers: the listed ones, and 0 after them.
@@ -194,20 +214,24 @@ fn items_good(root: &[u16], s: u16) -> Listed
     requires { ⌜ 1 ≤ s ⌝ }
     requires { ⌜ s ≤ sets (now root) ⌝ }
     requires { ⌜ items (now root) ≤ 64 ⌝ }
+    requires { ⌜ all (items (now root)) (item-good (now root)) ≡ true ⌝ }
     ensures { λ r. ⌜ r .good ≡ items-good (now (root .entry)) s ⌝ }
     ensures { λ r. ⌜ (r .good ≡ true → Holds (now (root .entry)) s (item-count (now (root .entry)) s) (r .bits)) ⌝ }
+    ensures { λ r. ⌜ (r .good ≡ true → r .length ≡ entry-length (now (root .entry)) s) ⌝ }
 {
     let n = stated::item_count(root, s);
     if n < 1 {
         return Listed {
             good: false,
             bits: 0,
+            length: 0,
         };
     }
     if 16 < n {
         return Listed {
             good: false,
             bits: 0,
+            length: 0,
         };
     }
     let t = first_items(root, s, n);
@@ -216,6 +240,7 @@ fn items_good(root: &[u16], s: u16) -> Listed
         Listed {
             good: blank(root, at, 16 - (n as usize)),
             bits: t.bits,
+            length: t.length,
         }
     } else {
         t
@@ -252,20 +277,24 @@ fn set_good(root: &[u16], s: u16) -> Listed
     requires { ⌜ 1 ≤ s ⌝ }
     requires { ⌜ s ≤ sets (now root) ⌝ }
     requires { ⌜ items (now root) ≤ 64 ⌝ }
+    requires { ⌜ all (items (now root)) (item-good (now root)) ≡ true ⌝ }
     ensures { λ r. ⌜ r .good ≡ set-good (now (root .entry)) s ⌝ }
     ensures { λ r. ⌜ (r .good ≡ true → Holds (now (root .entry)) s (item-count (now (root .entry)) s) (r .bits)) ⌝ }
+    ensures { λ r. ⌜ (r .good ≡ true → r .length ≡ entry-length (now (root .entry)) s) ⌝ }
 {
     let c = stated::capacity(root, s);
     if c < 1 {
         return Listed {
             good: false,
             bits: 0,
+            length: 0,
         };
     }
     if 4095 < c {
         return Listed {
             good: false,
             bits: 0,
+            length: 0,
         };
     }
     let t = items_good(root, s);
@@ -273,6 +302,7 @@ fn set_good(root: &[u16], s: u16) -> Listed
         Listed {
             good: kind_good(root, s, t.bits),
             bits: t.bits,
+            length: t.length,
         }
     } else {
         t
@@ -453,20 +483,31 @@ fn rest_unused(root: &[u16], s: u16) -> bool
     blank(root, at, 12 - 3 * (n as usize))
 }
 
-// Set s judged, but for the paths that lead to it, and its own paths counted.
-fn set_judged(root: &[u16], s: u16, leads: &mut [u16; 16], slots: &mut [u16; 64]) -> bool
+// Set s judged, but for the paths that lead to it, its entry measured, and its own paths counted.
+fn set_judged(
+    root: &[u16],
+    s: u16,
+    leads: &mut [u16; 16],
+    slots: &mut [u16; 64],
+    entries: &mut [u16; 16],
+) -> bool
     requires { ⌜ length (now root) ≡ root-length (now root) ⌝ }
     requires { ⌜ 1 ≤ s ⌝ }
     requires { ⌜ s ≤ sets (now root) ⌝ }
     requires { ⌜ s ≤ 16 ⌝ }
     requires { ⌜ items (now root) ≤ 64 ⌝ }
+    requires { ⌜ all (items (now root)) (item-good (now root)) ≡ true ⌝ }
     requires { ⌜ sets (now root) ≤ 16 ⌝ }
     requires { ⌜ Counted (now root) s 0 (now leads) (now slots) ⌝ }
+    requires { ⌜ Filled (entry-length (now root)) s (now entries) ⌝ }
     ensures { λ r. ⌜ r ≡ set-judged (now (root .entry)) s ⌝ }
     ensures { λ r. ⌜ (r ≡ true → Counted (now (root .entry)) (s + 1) 0 (now (leads .exit)) (now (slots .exit))) ⌝ }
+    ensures { λ r. ⌜ (r ≡ true → Filled (entry-length (now (root .entry))) (s + 1) (now (entries .exit))) ⌝ }
 {
     let t = set_good(root, s);
     if t.good {
+        let k = (s as usize) - 1;
+        entries[k] = t.length;
         if paths_good(root, s, t.bits, leads, slots) {
             rest_unused(root, s)
         } else {
@@ -477,21 +518,29 @@ fn set_judged(root: &[u16], s: u16, leads: &mut [u16; 16], slots: &mut [u16; 64]
     }
 }
 
-// The sets judged, but for the paths that lead to them, and all paths counted. Nothing is counted yet.
-fn sets_judged(root: &[u16], leads: &mut [u16; 16], slots: &mut [u16; 64]) -> bool
+// The sets judged, but for the paths that lead to them, their entries measured, and all paths counted. Nothing is counted yet.
+fn sets_judged(
+    root: &[u16],
+    leads: &mut [u16; 16],
+    slots: &mut [u16; 64],
+    entries: &mut [u16; 16],
+) -> bool
     requires { ⌜ length (now root) ≡ root-length (now root) ⌝ }
     requires { ⌜ items (now root) ≤ 64 ⌝ }
+    requires { ⌜ all (items (now root)) (item-good (now root)) ≡ true ⌝ }
     requires { ⌜ sets (now root) ≤ 16 ⌝ }
     requires { ⌜ now leads ≡ replicate 16 0 ⌝ }
     requires { ⌜ length (now slots) ≡ 64 ⌝ }
+    requires { ⌜ length (now entries) ≡ 16 ⌝ }
     ensures { λ r. ⌜ r ≡ all (sets (now (root .entry))) (set-judged (now (root .entry))) ⌝ }
     ensures { λ r. ⌜ (r ≡ true → Leads (now (root .entry)) (now (leads .exit))) ⌝ }
     ensures { λ r. ⌜ (r ≡ true → Slots (now (root .entry)) (now (slots .exit))) ⌝ }
+    ensures { λ r. ⌜ (r ≡ true → Entries (now (root .entry)) (now (entries .exit))) ⌝ }
 {
     let n = stated::sets(root);
     let mut s: u16 = 1;
     while s <= n {
-        if set_judged(root, s, leads, slots) {
+        if set_judged(root, s, leads, slots, entries) {
             s += 1;
         } else {
             return false;
@@ -554,17 +603,25 @@ fn head_good(root: &[u16]) -> bool
     }
 }
 
-// The rules of the root. On the way its paths are counted: for set m, at m - 1, those that lead to it; for path p of set s,
-// at 4 (s - 1) + p - 1, the number of its head among those of its master.
-pub fn root_judged(root: &[u16], leads: &mut [u16; 16], slots: &mut [u16; 64]) -> bool
+// The rules of the root. On the way its paths are counted and its entries measured: for set m, at m - 1, the paths that lead
+// to it and the words of its entry; for path p of set s, at 4 (s - 1) + p - 1, the number of its head among those of its
+// master.
+pub fn root_judged(
+    root: &[u16],
+    leads: &mut [u16; 16],
+    slots: &mut [u16; 64],
+    entries: &mut [u16; 16],
+) -> bool
     requires { ⌜ now leads ≡ replicate 16 0 ⌝ }
     requires { ⌜ length (now slots) ≡ 64 ⌝ }
+    requires { ⌜ length (now entries) ≡ 16 ⌝ }
     ensures { λ r. ⌜ r ≡ root-good (now (root .entry)) ⌝ }
     ensures { λ r. ⌜ (r ≡ true → Leads (now (root .entry)) (now (leads .exit))) ⌝ }
     ensures { λ r. ⌜ (r ≡ true → Slots (now (root .entry)) (now (slots .exit))) ⌝ }
+    ensures { λ r. ⌜ (r ≡ true → Entries (now (root .entry)) (now (entries .exit))) ⌝ }
 {
     if head_good(root) {
-        if sets_judged(root, leads, slots) {
+        if sets_judged(root, leads, slots, entries) {
             all_leading_good(root, leads)
         } else {
             false
