@@ -11,31 +11,13 @@ use mir.Syntax.{w16, w32}
 use mir.Val.{Fits}
 use borrow.Author.Needs.{fits-under}
 use Rattle.spec.specs.Words.{total}
-use Rattle.spec.specs.Root.{sets, item-length, kind, capacity, path-count, set-item, leading, root-length, root-good}
-use Rattle.spec.specs.Layout.{items-length, entry-length, front-words, record-words, size-of, start-of, area-length}
+use Rattle.spec.specs.Root.{sets, kind, capacity, path-count, leading, root-length, root-good}
+use Rattle.spec.specs.Layout.{entry-length, front-words, record-words, size-of, start-of, area-length}
 use Rattle.root.specs.declared.Plan.{Plan}
-use Rattle.root.specs.Ranges.{never-both, total-more}
+use Rattle.root.specs.Ranges.{never-both}
 use Rattle.root.specs.Plan.{Leads, Slots, Entries, Starts, Planned, Filled, filled-turn}
 use Rattle.root.specs.Good.{root-facts, few-paths, leads-few}
 use Rattle.root.specs.Sizes.{entry-fits, front-detail, front-master, size-fits, start-next, start-fits}
-
--- ---- the items
-module _ (root : List ℕ) (s : ℕ) where
-  pub sum-start : 0 ≡ items-length root s 0
-  unfolding items-length total
-  sum-start = refl
-
-  module _ (j sum : ℕ) (p : sum ≡ items-length root s j) where
-    pub sum-turn : (i l : ℕ) → i ≡ set-item root s (j + 1) → l ≡ item-length root i → sum + l ≡ items-length root s (j + 1)
-    unfolding items-length
-    sum-turn i l q r =
-        let e : total (j + 1) (λ j. item-length root (set-item root s j)) ≡ total j (λ j. item-length root (set-item root s j)) + item-length root (set-item root s (j + 1)) =
-        total-more (λ j. item-length root (set-item root s j)) (j + 1) j (omega arith) in
-        let f : l ≡ item-length root (set-item root s (j + 1)) = r ∙ ap (item-length root) q in
-        omega arith
-
-    pub sum-end : (n : ℕ) → j ≤ n → n ≤ j → sum ≡ items-length root s n
-    sum-end n a b = let e : j ≡ n = omega arith in p ∙ rw e
 
 -- ---- a good root's lengths fit
 module _ (root : List ℕ) (s : ℕ) (good : root-good root ≡ true) (low : 1 ≤ s) (high : s ≤ sets root) where
@@ -167,6 +149,9 @@ module _ (root : List ℕ) (b : Bool) (p : b ≡ false) (q : b ≡ true) where
 
 pub good-long : (root : List ℕ) → root-good root ≡ true → length root ≡ root-length root
 good-long root good = root-facts root good .long
+
+pub good-paths : (root : List ℕ) (s p : ℕ) → root-good root ≡ true → 1 ≤ s → s ≤ sets root → p ≤ path-count root s → p ≤ 4
+good-paths root s p good low high h = let a : path-count root s ≤ 4 = few-paths root good s low high in omega arith
 
 pub good-sets : (root : List ℕ) (b : Bool) → b ≡ root-good root → b ≡ true → sets root ≤ 16
 good-sets root b p e = root-facts root (sym p ∙ e) .sets-high

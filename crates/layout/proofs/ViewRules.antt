@@ -1,8 +1,10 @@
 -- What the functions that give views of a set show. Assumes nothing.
 use Prim.Native.Nat.{ℕ, suc, _+_, _*_, _/_, _≤_, _<_, _-_}
 use mathlib.Core.Path.{_≡_, refl, sym, _∙_, ap}
-use mathlib.Core.Bool.{true, false}
+use mathlib.Core.Bool.{true, false, not}
+use mathlib.Core.Logic.{dite}
 use mathlib.Core.List.{List, [], _∷_, _++_, append-assoc, append-nil, map}
+use native.Mathlib.Decide.{ℕ-discrete}
 use native.Mathlib.Numerals.{add-one}
 use native.Mathlib.Omega.{arith}
 use lib.ListN.{length, getD, take, set}
@@ -11,42 +13,101 @@ use lib.Dec.{eqb, ltb}
 use mir.Syntax.{w16}
 use mir.Val.{Fits}
 use borrow.Author.Needs.{fits-under, length-unmapped}
-use borrow.Author.Tests.{eqb-true, eq-eqb, ne-eqb}
-use Rattle.spec.specs.Words.{total}
-use Rattle.spec.specs.Root.{sets, item-type, item-length, kind, capacity, key-item, path-count, path-master, path-search, path-sort, bit, leading, leading-from, has-item, root-good}
+use borrow.Author.Tests.{eqb-true, eq-eqb, ne-eqb, not-true}
+use Rattle.spec.specs.Words.{within, total, latest}
+use Rattle.spec.specs.Root.{items, sets, item-type, item-length, item-count, set-item, set-item-good, item-listed, among, kind, capacity, key-item, path-count, path-master, path-search, path-sort, bit, leading, leading-from, has-item, root-good}
 use Rattle.spec.specs.Layout.{items-length, entry-length, item-number, field-of, front-words, record-words, start-of, shape-of, master-of, head-of, sort-of, path-of, heads-from, heads-in, heads-of}
 use Rattle.spec.specs.declared.Field.{Field}
 use Rattle.spec.specs.declared.Shape.{Shape}
 use Rattle.spec.specs.declared.Master.{Master}
 use Rattle.root.specs.Plan.{Planned, head-number}
 use Rattle.root.specs.declared.Plan.{Plan}
-use Rattle.root.specs.Good.{root-facts, set-of, item-found, key-listed, few-paths, path-of-set, sort-listed, leads-few, head-number-fits, leading-step, leading-from-step, leading-from-none}
-use Rattle.root.specs.Sizes.{entry-fits, entry-alone, front-fits, front-master, record-fits, field-inside}
+use Rattle.root.specs.Ranges.{Latest, and-right, never-both, all-at, any-of, total-more}
+use Rattle.root.specs.Good.{root-facts, set-of, place-listed, item-of, item-found, key-listed, few-paths, path-of-set, sort-listed, leads-few, head-number-fits, leading-step, leading-from-step, leading-from-none}
+use Rattle.root.specs.Sizes.{items-fit, entry-alone, front-fits, front-master, record-fits, field-inside}
 use Rattle.layout.specs.Views.{Shaped, Keyed, Mastered, Sided, Pathed, Headed}
 use Rattle.layout.specs.declared.Heads.{Heads}
 use Rattle.layout.specs.declared.Key.{Key}
 use Rattle.layout.specs.declared.Sides.{Sides}
 
 module _ (root : List ℕ) (s : ℕ) (good : root-good root ≡ true) (low : 1 ≤ s) (high : s ≤ sets root) where
-  -- ---- an item
-  module _ (i j : ℕ) (p : j ≡ item-number root s i) (h : has-item root s i ≡ true) where
-    pub number-low : 1 ≤ j
+  -- ---- an item, looked for from the first on
+  module _ (i : ℕ) (h : has-item root s i ≡ true) where
+    abbrev N : ℕ
+    N = item-number root s i
+
+    found : (1 ≤ N) × (N ≤ item-count root s) × (set-item root s N ≡ i)
     unfolding item-number
-    number-low = rw p (item-found root s i h .low)
+    found =
+        let l : Latest (λ k. eqb (set-item root s k) i) (item-count root s) = item-found root s i h in
+        (l .low, l .high, eqb-true (set-item root s (latest (item-count root s) (λ k. eqb (set-item root s k) i))) i (l .holds))
 
-    module _ (at : ℕ) (q : at ≡ items-length root s (j - 1)) where
-      pub field-in : (z : ℕ) → z ≡ item-length root i → at + z ≤ entry-length root s
-      field-in z e = rw (q, p, e) (field-inside root good s low high i h)
+    number-few : N ≤ 16
+    number-few =
+        let a : N ≤ item-count root s = found .1 in
+        let b : item-count root s ≤ 16 = set-of root good s low high .items-high in
+        omega arith
 
-      pub field-word : Fits w16 at
-      field-word =
-          let a : at + item-length root i ≤ entry-length root s = field-in (item-length root i) refl in
-          let b : entry-length root s ≤ 512 = entry-fits root good s low high in
-          fits-under w16 at 65536 (omega arith) tt
+    pub number-low : 1 ≤ N
+    number-low = found .0
 
-      pub field-is : (z : ℕ) → z ≡ item-length root i → record { at = at; size = z } ≡ field-of root s i
-      unfolding field-of
-      field-is z e = rw (q, p, e)
+    -- "a set's items exist and differ"
+    listed : item-listed root s N ≡ true
+    listed = sym (place-listed root s N (found .1)) ∙ all-at (set-item-good root s) 16 N (set-of root good s low high .listed) (found .0) number-few
+
+    differs : among root s (N - 1) (set-item root s N) ≡ false
+    unfolding item-listed
+    differs =
+        not-true (among root s (N - 1) (set-item root s N))
+        (and-right (within 1 (items root) (set-item root s N)) (not (among root s (N - 1) (set-item root s N))) listed)
+
+    module _ (j x at : ℕ) (a : 1 ≤ j) (b : j ≤ N) (p : x ≡ set-item root s j) (q : at ≡ items-length root s (j - 1)) where
+      only : x ≡ i → j ≡ N
+      unfolding among
+      only e =
+          dite (ℕ-discrete j N) (λ z. z)
+          (λ z.
+          absurd (never-both (among root s (N - 1) (set-item root s N)) differs
+          (any-of (λ k. eqb (set-item root s k) (set-item root s N)) (N - 1) j a (omega arith)
+          (eq-eqb (set-item root s j) (set-item root s N) (sym p ∙ e ∙ sym (found .2))))))
+
+      pub place-there : x ≤ items root
+      place-there = let c : N ≤ item-count root s = found .1 in rw p (item-of root good s low high j a (omega arith) .1)
+
+      more : (l : ℕ) → l ≡ item-length root x → at + l ≡ items-length root s j
+      unfolding items-length
+      more l e = rw (total-more (λ k. item-length root (set-item root s k)) j (j - 1) (omega arith), q, e, p)
+
+      pub place-word : (l : ℕ) → l ≡ item-length root x → Fits w16 (at + l)
+      place-word l e =
+          let c : N ≤ item-count root s = found .1 in
+          let d : at + l ≡ items-length root s j = more l e in
+          let f : items-length root s j ≤ 32 * j = items-fit root good s low high j (omega arith) in
+          let g : N ≤ 16 = number-few in
+          fits-under w16 (at + l) 65536 (omega arith) tt
+
+      module _ (e : x ≡ i → ⊥) where
+        pub place-next : j + 1 ≤ N
+        place-next =
+            let z : j ≡ N → ⊥ = λ y. e (p ∙ ap (set-item root s) y ∙ found .2) in
+            omega arith
+
+        pub place-few : j + 1 ≤ 16
+        place-few = let c : j + 1 ≤ N = place-next in let d : N ≤ 16 = number-few in omega arith
+
+        pub place-turn : (l : ℕ) → l ≡ item-length root x → at + l ≡ items-length root s (j + 1 - 1)
+        place-turn l f = let z : j + 1 - 1 ≡ j = omega arith in rw z (more l f)
+
+      module _ (e : x ≡ i) (l : ℕ) (f : l ≡ item-length root x) where
+        at-is : at ≡ items-length root s (N - 1)
+        at-is = rw (only e) at q
+
+        pub field-is : record { at = at; size = l } ≡ field-of root s i
+        unfolding field-of
+        field-is = rw (at-is, f, e)
+
+        pub field-in : at + l ≤ entry-length root s
+        field-in = rw (at-is, f, e) (field-inside root good s low high i h)
 
   -- ---- a set's shape
   pub laid-is :
@@ -290,6 +351,10 @@ module _ (root : List ℕ) (m : ℕ) where
         let o : leading-from root m s 0 ≡ 0 = leading-from-none root m s in
         let l : leading root m (sets root) ≤ 8 = leads-few root good m in
         omega arith
+
+pub place-start : (root : List ℕ) (s : ℕ) → 0 ≡ items-length root s (1 - 1)
+unfolding items-length total
+place-start root s = refl
 
 pub sets-few : (root : List ℕ) (n : ℕ) → root-good root ≡ true → n ≡ sets root → n ≤ 16
 sets-few root n good e = rw e (root-facts root good .sets-high)

@@ -6,24 +6,9 @@ ghost use Prim.Native.Nat.{_+_, _-_, _*_, _≤_, _<_};
 ghost use lib.Dec.{eqb};
 ghost use lib.ListN.{length, take};
 ghost use Rattle.spec.specs.Root.{sets, kind, path-count, path-master, leading, has-item, root-good};
-ghost use Rattle.spec.specs.Layout.{items-length, entry-length, item-number, field-of, head-of, sort-of, heads-of, front-words, size-of, start-of, area-length};
+ghost use Rattle.spec.specs.Layout.{entry-length, field-of, head-of, sort-of, heads-of, front-words, size-of, start-of, area-length};
 ghost use Rattle.root.specs.Plan.{Leads, Entries, Starts, Planned};
 ghost use Rattle.layout.specs.Views.{Shaped, Keyed, Mastered, Sided, Pathed, Headed};
-
-// The length of the first n items of set s.
-fn items_length(root: &[u16], s: u16, n: u16) -> u32
-    requires { ⌜ 1 ≤ s ⌝ }
-    ensures { λ r. ⌜ r ≡ items-length (now (root .entry)) s n ⌝ }
-{
-    let mut sum: u32 = 0;
-    let mut j: u16 = 0;
-    while j < n {
-        j += 1;
-        let i = root::set_item(root, s, j);
-        sum += root::item_length(root, i) as u32;
-    }
-    sum
-}
 
 // "Detail record: for each path a backward and a forward link"; "Master record: five synonym words; five words of chain head
 // for each path leading here"
@@ -132,36 +117,20 @@ pub fn known(root: &[u16], area: usize) -> Verdict
     let mut starts = [0u32; 16];
     let good = rules::root_judged(root, &mut leads, &mut slots, &mut entries);
     let size = sized(root, area, good, &leads, &entries, &mut starts);
-    let plan = root::Plan {
-        leads,
-        slots,
-        entries,
-        starts,
-    };
     Verdict {
         root: good,
         size,
-        plan,
+        plan: root::Plan {
+            leads,
+            slots,
+            entries,
+            starts,
+        },
     }
 }
 
-// The number of an item among the items of set s; 0 where it is not among them.
-fn item_number(root: &[u16], s: u16, item: u16) -> u16
-    requires { ⌜ 1 ≤ s ⌝ }
-    ensures { λ r. ⌜ r ≡ item-number (now (root .entry)) s item ⌝ }
-{
-    let mut j = root::item_count(root, s);
-    while 0 < j {
-        let x = root::set_item(root, s, j);
-        if x == item {
-            return j;
-        }
-        j -= 1;
-    }
-    0
-}
-
-// The place of an item of set s in the entry.
+// The place of an item of set s in the entry: behind the items before it. Items differ, so the first that is found is the
+// only one.
 pub fn field_of(root: &[u16], s: u16, item: u16) -> spec::Field
     requires { ⌜ root-good (now root) ≡ true ⌝ }
     requires { ⌜ 1 ≤ s ⌝ }
@@ -170,11 +139,17 @@ pub fn field_of(root: &[u16], s: u16, item: u16) -> spec::Field
     ensures { λ r. ⌜ r ≡ field-of (now (root .entry)) s item ⌝ }
     ensures { λ r. ⌜ r .at + r .size ≤ entry-length (now (root .entry)) s ⌝ }
 {
-    let j = item_number(root, s, item);
-    let at = items_length(root, s, j - 1);
+    let mut at: u16 = 0;
+    let mut j: u16 = 1;
+    let mut x = stated::set_item(root, s, 1);
+    while x != item {
+        at += stated::item_length(root, x);
+        j += 1;
+        x = stated::set_item(root, s, j);
+    }
     spec::Field {
-        at: at as u16,
-        size: root::item_length(root, item),
+        at,
+        size: stated::item_length(root, x),
     }
 }
 
@@ -414,8 +389,8 @@ fn path_heads(root: &[u16], m: u16, s: u16, p: u16, h: Heads) -> Heads
     requires { ⌜ Headed (now root) m s (p - 1) h ⌝ }
     ensures { λ r. ⌜ Headed (now (root .entry)) m s p r ⌝ }
 {
-    let cap = root::capacity(root, s);
-    if root::path_master(root, s, p) == m {
+    let cap = stated::capacity(root, s);
+    if stated::path_master(root, s, p) == m {
         pushed(h, cap)
     } else {
         h
@@ -430,7 +405,7 @@ fn set_heads(root: &[u16], m: u16, s: u16, h: Heads) -> Heads
     requires { ⌜ Headed (now root) m s 0 h ⌝ }
     ensures { λ r. ⌜ Headed (now (root .entry)) m (s + 1) 0 r ⌝ }
 {
-    let n = root::path_count(root, s);
+    let n = stated::path_count(root, s);
     let mut t = h;
     let mut p: u16 = 0;
     while p < n {

@@ -3,6 +3,7 @@ use mathlib.Core.Path.{_≡_}
 use borrow.Author.Needs.{needs}
 use Rattle.spec.specs.Root.{path-count}
 use Rattle.layout.specs.Views.{Headed}
+use Rattle.layout.proofs.Lengths.{good-long}
 use Rattle.layout.proofs.ViewRules.{headed-back, headed-set}
 use Rattle.layout.proofs.set_heads.Statement.{statement}
 use Rattle.layout.proofs.set_heads.Tie as tie
@@ -16,6 +17,6 @@ abbrev μ-loop : tie.MeasureT-loop
 pub set-heads-spec : {M : Type 1} → statement M
 set-heads-spec =
     tie.close
-    (tie.spec Inv-loop μ-loop (λ c κs. search needs) (λ c. (search needs, search needs, search)) (λ c. search needs)
+    (tie.spec Inv-loop μ-loop (λ c κs. (search good-long, (search needs, search needs))) (λ c. (search needs, search needs, search)) (λ c. search needs)
     (λ c κs. (search, (search needs, (search needs, (search needs, (search needs, search headed-back)))))) (λ c. search needs)
     (λ c. (search needs, search needs, search)) (λ c. search headed-set))
