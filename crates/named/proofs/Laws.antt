@@ -26,22 +26,30 @@ use Rattle.named.specs.declared.Knowing.{Knowing}
 use Rattle.named.specs.declared.Knowing.the-variants.{Yes, Refused as Unknown}
 use Rattle.named.specs.declared.Naming.{Naming}
 use Rattle.named.specs.declared.Naming.the-variants.{Master, Detail, Refused}
-use Rattle.named.specs.Answers.{Known, Knows, Kinded, Named-as, A-master, A-detail, Names, fits, kept, Chooses}
+use Rattle.named.specs.Answers.{knowing-of, Known, Knows, Kinded, Named-as, A-master, A-detail, Names, fits, kept, Chooses}
 use Rattle.named.specs.NamedLaws.{named-master, named-detail, named-refused}
 
 -- ---- −91, −92
-module _ (root a : List ℕ) (b z : Bool) (e : b ≡ root-good root) (f : b ≡ true → z ≡ eqb (length a) (area-length root)) (plan : Plan) where
-  pub know-yes : (b ≡ true → Planned root plan) → b ≡ true → z ≡ true → Knows root a Yes plan
-  unfolding Knows known
-  know-yes g t u = record { says = goes _ (passes BadRoot (sym e ∙ t)) (passes BadLength (sym (f t) ∙ u)); planned = g t }
+pub knowing-yes : (b z : Bool) → b ≡ true → z ≡ true → Yes ≡ knowing-of b z
+unfolding knowing-of
+knowing-yes b z p q = rw (p, q)
 
-  pub know-long : b ≡ true → z ≡ false → Knows root a (Unknown BadLength) plan
-  unfolding Knows known
-  know-long t u = goes _ (passes BadRoot (sym e ∙ t)) (fails BadLength (sym (f t) ∙ u))
+pub knowing-long : (b z : Bool) → b ≡ true → z ≡ false → Unknown BadLength ≡ knowing-of b z
+unfolding knowing-of
+knowing-long b z p q = rw (p, q)
 
-pub know-bad : (root a : List ℕ) (b : Bool) → b ≡ root-good root → (plan : Plan) → b ≡ false → Knows root a (Unknown BadRoot) plan
-unfolding Knows known
-know-bad root a b e plan t = stops _ (fails BadRoot (sym e ∙ t))
+pub knowing-bad : (b z : Bool) → b ≡ false → Unknown BadRoot ≡ knowing-of b z
+unfolding knowing-of
+knowing-bad b z p = rw p
+
+pub know-is :
+    (root a : List ℕ) (b z : Bool) (k : Knowing) (plan : Plan) → b ≡ root-good root → (b ≡ true → z ≡ eqb (length a) (area-length root)) →
+    (b ≡ true → Planned root plan) → k ≡ knowing-of b z → Knows root a k plan
+unfolding knowing-of Knows known
+know-is root a true true k plan e f g h =
+    rw h (record { says = goes _ (passes BadRoot (sym e)) (passes BadLength (sym (f refl))); planned = g refl })
+know-is root a true false k plan e f g h = rw h (goes _ (passes BadRoot (sym e)) (fails BadLength (sym (f refl))))
+know-is root a false z k plan e f g h = rw h (stops _ (fails BadRoot (sym e)))
 
 -- ---- −21
 and-none : (b : Bool) → b && false ≡ false

@@ -2,10 +2,10 @@
 -- Assumes nothing.
 use Prim.Native.Nat.{ℕ, _≤_}
 use mathlib.Core.Path.{_≡_}
-use mathlib.Core.Bool.{Bool, false, cond, _&&_}
+use mathlib.Core.Bool.{Bool, true, false, cond, _&&_}
 use mathlib.Core.List.{List}
 use lib.Dec.{leb}
-use Rattle.spec.specs.declared.Refusal.the-variants.{NoSet, BadCursor}
+use Rattle.spec.specs.declared.Refusal.the-variants.{BadRoot, BadLength, NoSet, BadCursor}
 use Rattle.spec.specs.Words.{within}
 use Rattle.spec.specs.declared.Cursor.{Cursor}
 use Rattle.spec.specs.Outcome.{Outcome, accept, refuse, _>>=_}
@@ -25,6 +25,12 @@ use Rattle.named.specs.declared.Found.the-variants.{At, Refused as None}
 abbrev pub found-out : Found → Outcome ℕ
 found-out (At r) = accept r
 found-out (None why) = refuse why
+
+-- −91, −92: by whether the root keeps its rules, and the area has its length
+unfoldable pub knowing-of : Bool → Bool → Knowing
+knowing-of true true = Yes
+knowing-of true false = Unknown BadLength
+knowing-of false size = Unknown BadRoot
 
 -- root and area go together
 pub record Known (root : List ℕ) (a : Area) (plan : Plan) : Type 0 where

@@ -5,7 +5,7 @@ ghost use Prim.Native.Nat.{_-_, _≤_};
 ghost use lib.Dec.{leb};
 ghost use lib.ListN.{getD};
 ghost use Rattle.spec.specs.Cursor.{fresh, current-record as record-current};
-ghost use Rattle.named.specs.Answers.{found-out, Kinded, Names, fits, kept, Chooses, Knows};
+ghost use Rattle.named.specs.Answers.{found-out, knowing-of, Kinded, Names, fits, kept, Chooses, Knows};
 use area::live;
 use layout::known;
 use root::Plan;
@@ -56,26 +56,28 @@ pub enum Found {
 }
 
 // −91, −92
+fn knowing_of(root: bool, size: bool) -> Knowing
+    ensures { λ k. ⌜ k ≡ knowing-of root size ⌝ }
+{
+    if root {
+        if size {
+            Knowing::Yes
+        } else {
+            Knowing::Refused(Refusal::BadLength)
+        }
+    } else {
+        Knowing::Refused(Refusal::BadRoot)
+    }
+}
+
 pub fn know(root: &[u16], area: &[u16]) -> Knowledge
     ensures { λ k. ⌜ Knows (now (root .entry)) (now (area .entry)) (k .knowing) (k .plan) ⌝ }
 {
     let k = known(root, area.len());
     let plan = k.plan;
-    if k.root {
-        if k.size {
-            return Knowledge {
-                knowing: Knowing::Yes,
-                plan: plan,
-            };
-        }
-        return Knowledge {
-            knowing: Knowing::Refused(Refusal::BadLength),
-            plan: plan,
-        };
-    }
     Knowledge {
-        knowing: Knowing::Refused(Refusal::BadRoot),
-        plan: plan,
+        knowing: knowing_of(k.root, k.size),
+        plan,
     }
 }
 
