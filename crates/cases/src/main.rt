@@ -11,29 +11,13 @@ ghost use mathlib.Core.Path.{_≡_};
 ghost use Prim.Native.Nat.{_≤_};
 ghost use lib.ListN.{length};
 
-// The place of the line end at or after a place, or the text's end.
-fn line_end(text: &[u8], from: usize) -> usize
-    requires { ⌜ from ≤ length (now text) ⌝ }
-    ensures { λ r. ⌜ (from ≤ r) × (r ≤ length (now (text .entry))) ⌝ }
-{
-    let mut i = from;
-    while i < text.len() {
-        let b = text[i];
-        if b == 10 {
-            return i;
-        }
-        i += 1;
-    }
-    i
-}
-
 // Works the script up to its end, or to a line that can't be read: what follows would be worked on another base than was meant.
 fn run(text: &[u8], root: &mut [u16], area: &mut [u16], buffer: &mut [u16]) {
     let mut st = stage::fresh();
     let mut at: usize = 0;
     let mut number: usize = 0;
     while at < text.len() {
-        let end = line_end(text, at);
+        let end = lines::place_of(text, at, 10);
         number += 1;
         st = stage::work_line(&text[at..end], st, root, area, buffer);
         let good = st.good;

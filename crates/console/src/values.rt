@@ -8,6 +8,7 @@ use crate::wanted::past;
 use crate::wanted::word_at;
 use lines::Number;
 use lines::number_of;
+use lines::place_of;
 use root::item_length;
 use root::item_type;
 use root::set_item;
@@ -123,51 +124,41 @@ fn take_number(
     }
 }
 
-// The place of the next quote, or the line's end.
-fn closing(line: &[u8], from: usize) -> usize
-    requires { ⌜ from ≤ length (now line) ⌝ }
-    ensures { λ r. ⌜ (from ≤ r) × (r ≤ length (now (line .entry))) ⌝ }
+// A text between quotes: whether one stands next, its first byte, and its closing quote.
+struct Quoted {
+    good: bool,
+    at: usize,
+    end: usize,
+}
+
+fn quoted_text(line: &[u8], from: usize) -> Quoted
+    ensures { λ r. ⌜ (r .at ≤ r .end) × (r .end ≤ length (now (line .entry))) ⌝ }
 {
-    let mut i = from;
-    while i < line.len() {
-        let b = line[i];
-        if b == 34 {
-            return i;
-        }
-        i += 1;
-    }
-    i
-}
-
-// The text between quotes; a text that isn't there is longer than any item.
-fn quoted(line: &[u8], from: usize) -> &[u8] {
     let w = word_at(line, from);
     let at = w.at;
     if at < line.len() {
         if line[at] == 34 {
-            let end = closing(line, at + 1);
-            let start = at + 1;
-            return &line[start..end];
+            let end = place_of(line, at + 1, 34);
+            return Quoted {
+                good: end < line.len(),
+                at: at + 1,
+                end,
+            };
         }
     }
-    line
-}
-
-// Whether a text in quotes stands next.
-fn is_quoted(line: &[u8], from: usize) -> bool {
-    let w = word_at(line, from);
-    let at = w.at;
-    if at < line.len() {
-        if line[at] == 34 {
-            return closing(line, at + 1) < line.len();
-        }
+    Quoted {
+        good: false,
+        at,
+        end: at,
     }
-    false
 }
 
 fn take_text(line: &[u8], from: usize, size: usize, out: &mut [u16], to: usize) -> bool {
-    let text = quoted(line, from);
-    if is_quoted(line, from) {
+    let q = quoted_text(line, from);
+    let at = q.at;
+    let end = q.end;
+    if q.good {
+        let text = &line[at..end];
         if text.len() / 2 + text.len() % 2 <= size {
             let mut room = item_room();
             lent::pack(text, &mut room);
@@ -184,14 +175,10 @@ fn take_text(line: &[u8], from: usize, size: usize, out: &mut [u16], to: usize) 
 
 // The place past a value.
 fn past_value(line: &[u8], from: usize, kind: u16) -> usize {
+    let q = quoted_text(line, from);
     if kind == 3 {
-        let w = word_at(line, from);
-        let at = w.at;
-        if at < line.len() {
-            let end = closing(line, at + 1);
-            if end < line.len() {
-                return end + 1;
-            }
+        if q.good {
+            return q.end + 1;
         }
     }
     past(line, from)

@@ -27,9 +27,6 @@ use Rattle.find.specs.Answers.{num-out}
 use Rattle.find.specs.FindLaws.{num-good, num-broken}
 use Rattle.master_put.specs.Answers.{area-out}
 use Rattle.master_put.specs.PutLaws.{area-done, area-refused}
-use Rattle.root.specs.declared.Plan.{Plan}
-use Rattle.root.specs.Plan.{Planned}
-use Rattle.root.specs.Good.{few-paths}
 use Rattle.layout.specs.Views.{Pathed}
 use Rattle.leaving.specs.declared.HungRead.{HungRead}
 use Rattle.leaving.specs.declared.HungRead.the-variants.{On, Broken as Unhung}
@@ -125,20 +122,6 @@ pub left-start : (root : List ℕ) (s r count : ℕ) (a : List ℕ) → count �
 unfolding Left
 left-start root s r count a e = ap (λ (n : ℕ). delete-paths (detail-of root s) r n 1 a) (omega arith)
 
-pub few : (root : List ℕ) (plan : Plan) (s count : ℕ) → Planned root plan → 1 ≤ s → s ≤ sets root → count ≡ path-count root s → count ≤ 4
-few root plan s count p l h e = let z : path-count root s ≤ 4 = few-paths root (p .good) s l h in omega arith
-
--- the room of a journal for as many paths
-pub two-paths : (root : List ℕ) (s count : ℕ) → count ≡ path-count root s → count ≤ 2 → 173 * path-count root s ≤ 346
-two-paths root s count e h = omega arith
-
-pub four-paths : (root : List ℕ) (plan : Plan) (s : ℕ) → Planned root plan → 1 ≤ s → s ≤ sets root → 173 * path-count root s ≤ 692
-four-paths root plan s p l h = let z : path-count root s ≤ 4 = few-paths root (p .good) s l h in omega arith
-
--- the path's number is one of the set's
-pub path-within : (root : List ℕ) (s count i : ℕ) → count ≡ path-count root s → i < count → i + 1 ≤ path-count root s
-path-within root s count i e h = omega arith
-
 module _ (root : List ℕ) (s r : ℕ) (a₀ a : List ℕ) (count i : ℕ) (e : From root s r a₀ ≡ Left root s r count i a) where
   pub paths-end : count ≤ i → accept a ≡ From root s r a₀
   unfolding delete-paths Left
@@ -154,17 +137,6 @@ module _ (root : List ℕ) (s r : ℕ) (a₀ a : List ℕ) (count i : ℕ) (e : 
 
     pub paths-refused : b ≡ false → refuse Broken ≡ From root s r a₀
     paths-refused t = sym (step ∙ stops _ (area-refused b a₁ _ o t))
-
-module _ (a₀ j₀ a j : List ℕ) (n i : ℕ) (k : Back a₀ j₀ 0 (173 * i) a j n) where
-  pub paths-all : (root : List ℕ) (s count : ℕ) → count ≡ path-count root s → i ≤ count → Back a₀ j₀ 0 (173 * path-count root s) a j n
-  paths-all root s count e h = back-more _ (omega arith) k
-
-  module _ (a₁ j₁ : List ℕ) (n₁ : ℕ) (b : Back a j n 173 a₁ j₁ n₁) where
-    pub back-next : Back a₀ j₀ 0 (173 * (i + 1)) a₁ j₁ n₁
-    back-next = back-more _ (omega arith) (back-then k b)
-
-    pub back-all : (root : List ℕ) (s count : ℕ) → count ≡ path-count root s → i < count → Back a₀ j₀ 0 (173 * path-count root s) a₁ j₁ n₁
-    back-all root s count e h = back-more _ (omega arith) back-next
 
 -- ---- the record freed
 pub free-is :

@@ -16,10 +16,7 @@ use Rattle.spec.specs.Area.{set-mark, set-freed, put-entry-at, go-live}
 use Rattle.spec.specs.Detail.{take-record, Placed, put-path, Lined, put-paths, none-passed, settle, Line, put-taken, put-line}
 use Rattle.spec.specs.Follow.{goes, stops}
 use Rattle.journal.specs.Journal.{Back}
-use Rattle.journal.specs.BackLaws.{back-then, back-more}
-use Rattle.root.specs.declared.Plan.{Plan}
-use Rattle.root.specs.Plan.{Planned}
-use Rattle.root.specs.Good.{few-paths}
+use Rattle.journal.specs.BackLaws.{back-more}
 use Rattle.layout.specs.Views.{Pathed}
 use Rattle.placing.specs.declared.Placing.{Placing}
 use Rattle.placing.specs.declared.Placing.the-variants.{Passed, Refused as Unplaced}
@@ -64,20 +61,6 @@ pub left-start :
 unfolding Left
 left-start root s entry r count a e = ap (λ (n : ℕ). put-paths (detail-of root s) entry r n 1 (record { area = a; passed = none-passed })) (omega arith)
 
-pub few : (root : List ℕ) (plan : Plan) (s count : ℕ) → Planned root plan → 1 ≤ s → s ≤ sets root → count ≡ path-count root s → count ≤ 4
-few root plan s count p l h e = let z : path-count root s ≤ 4 = few-paths root (p .good) s l h in omega arith
-
--- the room of a journal for as many paths
-pub two-paths : (root : List ℕ) (s count : ℕ) → count ≡ path-count root s → count ≤ 2 → 173 * path-count root s ≤ 346
-two-paths root s count e h = omega arith
-
-pub four-paths : (root : List ℕ) (plan : Plan) (s : ℕ) → Planned root plan → 1 ≤ s → s ≤ sets root → 173 * path-count root s ≤ 692
-four-paths root plan s p l h = let z : path-count root s ≤ 4 = few-paths root (p .good) s l h in omega arith
-
--- the path's number is one of the set's
-pub path-within : (root : List ℕ) (s count i : ℕ) → count ≡ path-count root s → i < count → i + 1 ≤ path-count root s
-path-within root s count i e h = omega arith
-
 module _ (root : List ℕ) (s : ℕ) (entry : List ℕ) (r : ℕ) (a₀ a ks : List ℕ) (count i : ℕ) (e : From root s entry r a₀ ≡ Left root s entry r count i a ks) where
   pub paths-end : count ≤ i → accept (record { area = a; passed = ks }) ≡ From root s entry r a₀
   unfolding put-paths Left
@@ -93,17 +76,6 @@ module _ (root : List ℕ) (s : ℕ) (entry : List ℕ) (r : ℕ) (a₀ a ks : L
 
     pub paths-refused : (why : Refusal) → x ≡ Unplaced why → refuse why ≡ From root s entry r a₀
     paths-refused why t = sym (step ∙ stops _ (sym o ∙ ap (λ (y : Placing). placed-out y a₁) t))
-
-module _ (a₀ j₀ a j : List ℕ) (n i : ℕ) (k : Back a₀ j₀ 0 (173 * i) a j n) where
-  pub paths-all : (root : List ℕ) (s count : ℕ) → count ≡ path-count root s → i ≤ count → Back a₀ j₀ 0 (173 * path-count root s) a j n
-  paths-all root s count e h = back-more _ (omega arith) k
-
-  module _ (a₁ j₁ : List ℕ) (n₁ : ℕ) (b : Back a j n 173 a₁ j₁ n₁) where
-    pub back-next : Back a₀ j₀ 0 (173 * (i + 1)) a₁ j₁ n₁
-    back-next = back-more _ (omega arith) (back-then k b)
-
-    pub back-all : (root : List ℕ) (s count : ℕ) → count ≡ path-count root s → i < count → Back a₀ j₀ 0 (173 * path-count root s) a₁ j₁ n₁
-    back-all root s count e h = back-more _ (omega arith) back-next
 
 -- ---- the record itself
 pub settle-is :

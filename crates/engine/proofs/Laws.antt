@@ -13,8 +13,9 @@ use Rattle.spec.specs.declared.Shape.{Shape}
 use Rattle.spec.specs.Outcome.{Outcome as Outcome-of, accept, refuse, refused-words}
 use Rattle.spec.specs.Area.{Area, entry-at}
 use Rattle.spec.specs.Detail.{none-passed}
-use Rattle.spec.specs.Calls.{Done as Done-by, answer, known, made, make, find-steps, find, get-steps, get}
+use Rattle.spec.specs.Calls.{Done as Done-by, answer, known, made, make, get-steps, get}
 use Rattle.root.specs.declared.Plan.{Plan}
+use Rattle.master_calls.specs.Answers.{Unchanged}
 use Rattle.named.specs.declared.Knowing.{Knowing}
 use Rattle.named.specs.declared.Knowing.the-variants.{Yes, Refused as Unknown}
 use Rattle.named.specs.Answers.{Known, Knows}
@@ -65,7 +66,12 @@ module _ (root : List ℕ) (a : Area) (y : Knowing) (plan : Plan) (k : Knows roo
   unfolding make made
   unmade-area why t = sym (ap (λ (o : Outcome-of (Unit {0})). made a o .area) (knows-no why t))
 
--- ---- an outcome that the definitions have is what they answer
+-- ---- an outcome that the definitions have is what they answer; a refused call has changed no word of the area
+area-left : (o : Outcome) (a : Area) (cs : List Cursor) (s : ℕ) (ks b : List ℕ) → Unchanged o a b → b ≡ answer a cs s [] (done-out o ks b []) .area
+unfolding answer
+area-left (Done g) a cs s ks b u = refl
+area-left (Refused why) a cs s ks b u = u
+
 module _ (o : Outcome) (a : Area) (cs : List Cursor) (s : ℕ) (ks : List ℕ) (b : Area) (x : Outcome-of Done-by) (e : done-out o ks b [] ≡ x) where
   pub told-status : (w : List ℕ) → w ≡ status-out o → w ≡ answer a cs s [] x .status
   told-status w t = t ∙ sym (answer-status o a cs s [] ks b []) ∙ ap (λ (y : Outcome-of Done-by). answer a cs s [] y .status) e
@@ -76,20 +82,8 @@ module _ (o : Outcome) (a : Area) (cs : List Cursor) (s : ℕ) (ks : List ℕ) (
   pub told-passed : (ls : List ℕ) → ls ≡ passed-out o ks → ls ≡ answer a cs s [] x .passed
   told-passed ls t = t ∙ sym (answer-passed o a cs s [] ks b []) ∙ ap (λ (y : Outcome-of Done-by). answer a cs s [] y .passed) e
 
--- ---- find
-module _ (root : List ℕ) (a : Area) (cs : List Cursor) (s item : ℕ) (key : List ℕ) (o : Outcome)
-    (e : done-out o none-passed a [] ≡ find-steps root a cs s item key) where
-  pub find-status : (w : List ℕ) → w ≡ status-out o → w ≡ find root a cs s item key .status
-  unfolding find
-  find-status w t = told-status o a cs s none-passed a _ e w t
-
-  pub find-cursors : (ds : List Cursor) → ds ≡ cursors-out o cs s → ds ≡ find root a cs s item key .cursors
-  unfolding find
-  find-cursors ds t = told-cursors o a cs s none-passed a _ e ds t
-
-  pub find-passed : (ls : List ℕ) → ls ≡ passed-out o none-passed → ls ≡ find root a cs s item key .passed
-  unfolding find
-  find-passed ls t = told-passed o a cs s none-passed a _ e ls t
+  pub told-area : Unchanged o a b → b ≡ answer a cs s [] x .area
+  told-area u = area-left o a cs s ks b u ∙ ap (λ z. answer a cs s [] z .area) e
 
 -- ---- get
 pub readable : (o : Outcome) (g : Good) → Readable o → o ≡ Done g → 1 ≤ g .at

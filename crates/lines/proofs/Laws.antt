@@ -12,7 +12,7 @@ use lib.Dec.{eqb}
 use lib.Seq.{drop-cons}
 use Rattle.lines.specs.declared.Number.{Number}
 use Rattle.lines.specs.declared.Number.the-variants.{Given, Bad}
-use Rattle.lines.specs.Lines.{blank, letter, first, upper-case, alike, digits-after, number}
+use Rattle.lines.specs.Lines.{blank, letter, other, first, upper-case, alike, digits-after, number}
 
 -- ---- bytes of a kind, from a place on
 module _ (kind : ℕ → Bool) (l : List ℕ) (whole i : ℕ) (e : whole ≡ i + first kind (drop i l)) where
@@ -47,6 +47,14 @@ module _ (b : ℕ) where
   pub no-letter : b < 33 → letter b ≡ false
   unfolding letter
   no-letter h = le-ltb 32 b (omega arith)
+
+  pub is-other : (x : ℕ) → (x ≡ b → ⊥) → other b x ≡ true
+  unfolding other
+  is-other x d = rw (ne-eqb x b d)
+
+  pub no-other : (x : ℕ) → x ≡ b → other b x ≡ false
+  unfolding other
+  no-other x e = rw (eq-eqb x b e)
 
   -- ---- upper and lower case
   pub below-small : b < 97 → b ≡ upper-case b

@@ -1,7 +1,7 @@
 -- The words of a line of text, and a word as a number.
 -- Assumes nothing.
 use Prim.Native.Nat.{ℕ, zero, suc, _+_, _-_, _*_}
-use mathlib.Core.Bool.{Bool, true, false, _&&_}
+use mathlib.Core.Bool.{Bool, true, false, _&&_, not}
 use mathlib.Core.List.{List, [], _∷_}
 use lib.Dec.{eqb, ltb}
 use Rattle.lines.specs.declared.Number.{Number}
@@ -13,6 +13,10 @@ blank b = ltb b 33
 
 unfoldable pub letter : ℕ → Bool
 letter b = ltb 32 b
+
+-- any byte but one
+unfoldable pub other : ℕ → ℕ → Bool
+other b x = not (eqb x b)
 
 -- how many bytes of a kind stand first
 unfoldable pub first : (ℕ → Bool) → List ℕ → ℕ

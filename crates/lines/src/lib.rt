@@ -3,7 +3,7 @@ ghost use mathlib.Core.Path.{_≡_};
 ghost use Prim.Native.Nat.{_+_, _≤_, _<_};
 ghost use lib.Dec.{eqb};
 ghost use lib.ListN.{length, drop};
-ghost use Rattle.lines.specs.Lines.{blank, letter, first, upper-case, alike, number};
+ghost use Rattle.lines.specs.Lines.{blank, letter, other, first, upper-case, alike, number};
 
 // From the first byte of a word to the byte past its last.
 pub struct Word {
@@ -44,6 +44,23 @@ fn past_letters(line: &[u8], from: usize) -> usize
     while i < line.len() {
         let b = line[i];
         if b < 33 {
+            return i;
+        }
+        i += 1;
+    }
+    i
+}
+
+// The place of the next byte b at a place or after it; the line's end where there is none.
+pub fn place_of(line: &[u8], from: usize, b: u8) -> usize
+    requires { ⌜ from ≤ length (now line) ⌝ }
+    ensures { λ r. ⌜ r ≡ from + first (other b) (drop from (now (line .entry))) ⌝ }
+    ensures { λ r. ⌜ (from ≤ r) × (r ≤ length (now (line .entry))) ⌝ }
+{
+    let mut i = from;
+    while i < line.len() {
+        let x = line[i];
+        if x == b {
             return i;
         }
         i += 1;

@@ -1,4 +1,4 @@
-use Rattle.detail_delete.proofs.Laws.{two-paths, four-paths}
+use Rattle.turns.specs.Turns.{two-paths, four-paths}
 use borrow.Author.Needs.{needs}
 use Rattle.detail_delete.proofs.delete_line.Statement.{statement}
 use Rattle.detail_delete.proofs.delete_line.Tie as tie

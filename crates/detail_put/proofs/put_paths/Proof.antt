@@ -5,7 +5,8 @@ use borrow.Author.Needs.{needs}
 use Rattle.spec.specs.Root.{path-count as paths-of}
 use Rattle.journal.specs.Journal.{Back}
 use Rattle.journal.specs.BackLaws.{back-none}
-use Rattle.detail_put.proofs.Laws.{From, Left, left-start, few, path-within, back-next, paths-next, paths-refused, back-all, paths-end, paths-all}
+use Rattle.turns.specs.Turns.{few, path-within, back-next, back-all, paths-all}
+use Rattle.detail_put.proofs.Laws.{From, Left, left-start, paths-next, paths-refused, paths-end}
 use Rattle.detail_put.proofs.put_paths.Statement.{statement}
 use Rattle.detail_put.proofs.put_paths.Tie as tie
 

@@ -1,4 +1,4 @@
-use Rattle.detail_put.proofs.Laws.{two-paths, four-paths}
+use Rattle.turns.specs.Turns.{two-paths, four-paths}
 use borrow.Author.Needs.{needs}
 use Rattle.detail_put.proofs.put_taken.Statement.{statement}
 use Rattle.detail_put.proofs.put_taken.Tie as tie

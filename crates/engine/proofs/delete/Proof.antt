@@ -1,4 +1,5 @@
-use Rattle.engine.proofs.ChangeLaws.{delete-status, delete-cursors, delete-passed, delete-area}
+use Rattle.spec.specs.Calls.{delete}
+use Rattle.engine.proofs.Laws.{told-status, told-cursors, told-passed, told-area}
 use borrow.Author.Needs.{needs}
 use Rattle.engine.proofs.delete.Statement.{statement}
 use Rattle.engine.proofs.delete.Tie as tie
@@ -7,4 +8,4 @@ pub delete-spec : {M : Type 1} → statement M
 delete-spec =
     tie.close
     (tie.spec (λ c κs. search needs) (λ c κs. search needs) (λ c. search needs)
-    (λ c. (search delete-status, (search delete-cursors, (search delete-passed, search delete-area)))))
+    (λ c. unfold delete in (search told-status, (search told-cursors, (search told-passed, search told-area)))))

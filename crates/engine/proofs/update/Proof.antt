@@ -1,4 +1,5 @@
-use Rattle.engine.proofs.ChangeLaws.{update-status, update-cursors, update-passed, update-area}
+use Rattle.spec.specs.Calls.{update}
+use Rattle.engine.proofs.Laws.{told-status, told-cursors, told-passed, told-area}
 use borrow.Author.Needs.{needs}
 use Rattle.engine.proofs.update.Statement.{statement}
 use Rattle.engine.proofs.update.Tie as tie
@@ -7,4 +8,4 @@ pub update-spec : {M : Type 1} → statement M
 update-spec =
     tie.close
     (tie.spec (λ c κs. search needs) (λ c κs. search needs) (λ c. search needs)
-    (λ c. (search update-status, (search update-cursors, (search update-passed, search update-area)))))
+    (λ c. unfold update in (search told-status, (search told-cursors, (search told-passed, search told-area)))))
