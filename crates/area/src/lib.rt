@@ -1,6 +1,8 @@
 // The area's map, records, heads, links and synonym words, each read and written by one function; what is read whole is held
 // against the rules of answer 18. A function that writes keeps what it overwrites in the journal and hands the journal's count
 // back.
+#![tactic(auto)]
+
 ghost use Rattle.std.specs.Prelude.{◌≡◌, true, ◌||◌, ◌&&◌, not, ◌+◌, ◌-◌, ◌*◌, ◌≤◌, ◌<◌, ◌^◌, length, eqb, leb};
 ghost use Rattle.spec.specs.Area.{map_place, map_bit, live as live_in, go_live, go_unused, place as place_of, peek as peek_in, peek_link as peek_link_in, peek_part as peek_part_in, poke as poke_in, poke_link as poke_link_in, mend as mend_in, blank as blank_in, copy_part, entry_at as entry_in, value_at as value_in, put_entry_at, mark as mark_in, freed as freed_in, set_mark as mark_set, set_freed as freed_set, read_head as head_in, read_links as links_in, peek_links as links_peeked, synonyms as synonyms_in, set_synonyms as synonyms_set};
 ghost use Rattle.journal.specs.Journal.{Back};
@@ -12,14 +14,14 @@ use spec::{Field, Head, Links, Shape};
 use words::{bit_off, bit_on, bit_set, long_at, part, word};
 
 // A head or five synonym words, read whole.
-#[derive(Drop)]
+#[derive(Clone, Copy)]
 pub enum HeadRead {
     Whole(Head),
     Broken,
 }
 
 // A pair of links, read whole.
-#[derive(Drop)]
+#[derive(Clone, Copy)]
 pub enum LinksRead {
     Whole(Links),
     Broken,

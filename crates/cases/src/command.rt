@@ -5,7 +5,7 @@ use lines::{Number, Word, is_word, next_word, number_of};
 use words::put_word;
 
 // A change of what the calls work on.
-#[derive(Drop)]
+#[derive(Clone, Copy)]
 pub enum Change {
     Root,
     MoreRoot,
@@ -17,7 +17,7 @@ pub enum Change {
     Reset,
 }
 
-#[derive(Drop)]
+#[derive(Clone, Copy)]
 pub enum Call {
     New,
     Find,
@@ -28,7 +28,7 @@ pub enum Call {
 }
 
 // A line that is read for its own sake (blank, a comment, or an answer worked out by hand), a change, a call, or none of these.
-#[derive(Drop)]
+#[derive(Clone, Copy)]
 pub enum Command {
     Text,
     Change(Change),
@@ -37,7 +37,7 @@ pub enum Command {
 }
 
 // How many numbers a command takes, and which of them, counted from 1, may be longer than a word.
-#[derive(Drop)]
+#[derive(Clone, Copy)]
 struct Form {
     least: usize,
     most: usize,
@@ -114,7 +114,7 @@ pub fn short_at(line: &[u8], k: usize) -> u16 {
 }
 
 // Where words of a line went: to the place before this one, and whether there was room for all.
-#[derive(Drop)]
+#[derive(Clone, Copy)]
 pub struct Laid {
     pub end: usize,
     pub all: bool,

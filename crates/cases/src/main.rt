@@ -1,6 +1,8 @@
 // The worked cases: a script of calls on standard input, worked on the engine. Written is the script, line by line, and after
 // each call all that it answered and changed. The same is written by the second program, on a model of its own; the gate
 // compares the two.
+#![tactic(auto)]
+
 mod calls;
 mod command;
 mod report;

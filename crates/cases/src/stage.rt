@@ -8,7 +8,7 @@ use spec::Cursor;
 use words::{part, put_word};
 
 // The cursors, how many words of the rooms for root, area and buffer are lent, and whether every line so far could be read.
-#[derive(Drop)]
+#[derive(Clone, Copy)]
 pub struct Stage {
     pub session: Session,
     pub root: usize,

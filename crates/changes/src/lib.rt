@@ -1,4 +1,6 @@
 // The changing calls, put, update and delete, up to their outcome. Where the outcome is a refusal, the area is as it was.
+#![tactic(auto)]
+
 ghost use Rattle.std.specs.Prelude.{◌≡◌, [], ◌≤◌};
 ghost use Rattle.spec.specs.Root.{sets as sets_in, kind as kind_in};
 ghost use Rattle.spec.specs.Layout.{a_master, master_of as master_in, heads_of as heads_in};

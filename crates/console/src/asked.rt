@@ -3,7 +3,7 @@ use crate::values::{take_entry, take_value};
 use crate::wanted::{is_end, want_long, want_word};
 
 // The set, and beside it what the command names: an item, a mode, a record; and how many words were given.
-#[derive(Drop)]
+#[derive(Clone, Copy)]
 pub struct Asked {
     pub ok: bool,
     pub set: u16,

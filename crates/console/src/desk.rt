@@ -3,7 +3,7 @@ use screen::{say, say_long, say_word};
 use session::Session;
 use words::long_at;
 
-#[derive(Drop)]
+#[derive(Clone, Copy)]
 pub struct Desk {
     pub session: Session,
     pub status: [u16; 10],

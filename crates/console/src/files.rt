@@ -10,7 +10,7 @@ use screen::{say, say_long};
 use words::{lay, part, put_word, word};
 
 // How many words were read, and whether they are all that there was and good.
-#[derive(Drop)]
+#[derive(Clone, Copy)]
 struct Filed {
     ok: bool,
     size: usize,

@@ -1,5 +1,7 @@
 // A console: a person looks into a base and changes it, by commands of one line each, from a terminal or from a script that the
 // first argument names. It begins with the sample base of document 01, empty; `help` tells the commands.
+#![tactic(auto)]
+
 mod asked;
 mod calls;
 mod commands;
@@ -14,21 +16,21 @@ use desk::{Desk, fresh_desk};
 use screen::say;
 
 // Where commands come from; a script's are shown as they are carried out.
-#[derive(Drop)]
+#[derive(Clone, Copy)]
 struct Source {
     fd: i32,
     script: bool,
 }
 
 // A line that was read: its length, whether all of it fitted, and whether anything was there at all.
-#[derive(Drop)]
+#[derive(Clone, Copy)]
 struct Read {
     size: usize,
     whole: bool,
     there: bool,
 }
 
-#[derive(Drop)]
+#[derive(Clone, Copy)]
 enum Byte {
     Of(u8),
     None,

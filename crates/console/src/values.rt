@@ -7,7 +7,7 @@ use root::{item_length, item_type, set_item};
 use words::{high, lay, low, part};
 
 // Whether a value was read, the words read so far, and the place past it.
-#[derive(Drop)]
+#[derive(Clone, Copy)]
 pub struct Taken {
     pub ok: bool,
     pub size: usize,
@@ -115,7 +115,7 @@ fn take_number(
 }
 
 // A text between quotes: whether one stands next, its first byte, and its closing quote.
-#[derive(Drop)]
+#[derive(Clone, Copy)]
 struct Quoted {
     good: bool,
     at: usize,

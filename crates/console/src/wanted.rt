@@ -5,7 +5,7 @@ use lines::{Number, Word, next_word, number_of};
 use screen::say;
 
 // A number that fits a word, and the place past it.
-#[derive(Drop)]
+#[derive(Clone, Copy)]
 pub struct Small {
     pub ok: bool,
     pub value: u16,
@@ -13,7 +13,7 @@ pub struct Small {
 }
 
 // A number that fits two words, and the place past it.
-#[derive(Drop)]
+#[derive(Clone, Copy)]
 pub struct Large {
     pub ok: bool,
     pub value: u32,

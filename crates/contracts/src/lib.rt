@@ -1,6 +1,8 @@
 // What the contracts of the six calls say, taken together. Each function here is a call of the engine, nothing more: its own contract
 // is the record of specs/OneOutcome.antt that the theorems of specs/ are about, and is proved from the call's `ensures`. So those
 // theorems speak of the calls themselves.
+#![tactic(auto)]
+
 ghost use Rattle.contracts.specs.OneOutcome.{Makes, Finds, Gets, Puts, Updates, Deletes};
 
 use session::{Answer, Session};

@@ -1,5 +1,7 @@
 // Put, update and delete on a detail set with its cursor, up to their outcome. Where the outcome is a refusal, the area is as it
 // was.
+#![tactic(auto)]
+
 ghost use Rattle.std.specs.Prelude.{◌≡◌, true, [], ◌+◌, ◌≤◌, ◌<◌, length};
 ghost use Rattle.spec.specs.Root.{root_good, sets as sets_in, kind as kind_in, path_count as paths_in};
 ghost use Rattle.spec.specs.Layout.{a_detail, detail_of, shape_of as shape_in};
@@ -23,7 +25,7 @@ use session::{Good, Outcome, no_links};
 use spec::{Cursor, Links, Refusal, Shape};
 
 // A put's outcome, and the lines passed on each path.
-#[derive(Drop)]
+#[derive(Clone, Copy)]
 pub struct Worked {
     pub outcome: Outcome,
     pub passed: [u16; 4],

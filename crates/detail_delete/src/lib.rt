@@ -1,5 +1,7 @@
 // "Detail steps", delete: the line leaves its paths in turn, automatic entries without lines are dropped, and the record is the
 // first freed. A refusal on any path leads back by the journal.
+#![tactic(auto)]
+
 ghost use Rattle.std.specs.Prelude.{◌≡◌, true, ◌+◌, ◌-◌, ◌*◌, ◌≤◌, ◌<◌, ◌^◌, length};
 ghost use Rattle.spec.specs.Root.{root_good, sets as sets_of, kind as kind_of, path_count as paths_of};
 ghost use Rattle.spec.specs.Layout.{shape_of as shape_in, detail_of, heads_of as heads_in};

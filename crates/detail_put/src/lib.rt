@@ -1,5 +1,7 @@
 // "Detail steps", put: the line's record, its paths in turn, and the record itself. A refusal on any path leads back by the
 // journal.
+#![tactic(auto)]
+
 ghost use Rattle.std.specs.Prelude.{◌≡◌, ◌+◌, ◌-◌, ◌*◌, ◌≤◌, ◌<◌, ◌^◌, length};
 ghost use Rattle.spec.specs.Root.{sets as sets_of, kind as kind_of, path_count as paths_of};
 ghost use Rattle.spec.specs.Layout.{shape_of as shape_in, detail_of};
@@ -18,13 +20,13 @@ use root::{Plan, path_count};
 use spec::{Refusal, Shape, Taken};
 
 // How all paths went.
-#[derive(Drop)]
+#[derive(Clone, Copy)]
 pub enum Lining {
     Done,
     Refused(Refusal),
 }
 
-#[derive(Drop)]
+#[derive(Clone, Copy)]
 pub struct PathsWent {
     pub lining: Lining,
     pub passed: [u16; 4],
@@ -32,7 +34,7 @@ pub struct PathsWent {
 }
 
 // The line that was put: its record; the lines passed on each path.
-#[derive(Drop)]
+#[derive(Clone, Copy)]
 pub struct LineWent {
     pub entered: Entered,
     pub passed: [u16; 4],

@@ -1,5 +1,7 @@
 // The six calls. Each answers, for arbitrary words of root, area, cursors, entry and value, exactly what its definition in the
 // crate spec works out from them; none has a `requires`, and none leaves room for a second answer.
+#![tactic(auto)]
+
 ghost use Rattle.std.specs.Prelude.{◌≡◌, length, replicate};
 ghost use Rattle.spec.specs.Calls.{make as make_base, find as find_chain, get as get_entry, put as put_entry, update as update_entry, delete as delete_entry};
 ghost use Rattle.reads.specs.Answers.{Readable};

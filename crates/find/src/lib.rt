@@ -1,5 +1,7 @@
 // "Master steps", the readings: the primary address, find along the synonym chain, the search for an unused record, and what a
 // put and a delete read before they write.
+#![tactic(auto)]
+
 ghost use Rattle.std.specs.Prelude.{◌≡◌, true, cond, ◌+◌, ◌-◌, ◌*◌, ◌%◌, ◌≤◌, ◌<◌, ◌^◌, length};
 ghost use Rattle.spec.specs.Words.{same as same_words};
 ghost use Rattle.spec.specs.Master.{key_number, address as address_of, key_at as key_in, primary_of as primary_in, find_along as found_along, find_primary as found_primary, find_key as found_key, next_up as up_from, unused_from as unused_in, last_primary as last_primary_in, named_by as named_in, no_lines as lines_none, lowered as lowered_in};
@@ -10,14 +12,14 @@ use spec::{Head, Lowered, Master, Shape};
 use words::same;
 
 // A record's number, 0 for none; or answer 18.
-#[derive(Drop)]
+#[derive(Clone, Copy)]
 pub enum Num {
     Good(u32),
     Broken,
 }
 
 // Whether an entry has no lines; or answer 18.
-#[derive(Drop)]
+#[derive(Clone, Copy)]
 pub enum Lines {
     None,
     Some,
@@ -247,7 +249,7 @@ pub fn no_lines(area: &[u16], s: Shape, r: u32, heads: &[u16]) -> Lines
 }
 
 // The primary of the secondary r, found from its key and read whole; its count is lowered and so is not 0.
-#[derive(Drop)]
+#[derive(Clone, Copy)]
 pub enum Lower {
     To(Lowered),
     Broken,

@@ -2,7 +2,7 @@
 use Rattle.std.specs.Prelude.{◌≡◌, refl, ◌≢◌, ◌⊎◌, List, [], ◌∷◌, Bool, true, false, not, cond, ℕ, zero, suc, ◌+◌, ◌-◌, ◌*◌, ◌/◌, ◌%◌, ◌≤◌, ◌<◌, get_or, T, eqb}
 use Rattle.std.proofs.Common.{sym, ◌∙◌, subst, inl, inr, arith, get_or-set_other, T_not, leb-true, ltb-true, eq-eqb}
 use Rattle.std.proofs.Math.Path.{ap}
-use Rattle.std.proofs.Math.Logic.{Ne·symm}
+use Rattle.std.proofs.Math.Logic.{Ne-symm}
 use Rattle.std.proofs.Math.Decide.{ℕ_discrete, dec_lt}
 use Rattle.std.proofs.Math.ListN.{length}
 use Rattle.std.proofs.Math.Seq.{get_or-set_same, set_out}
@@ -119,7 +119,7 @@ module _ {s : Shape} {r k : ℕ} (d : k ≢ r) where
   pub by_record : {i j n : ℕ} {u : Value} → Misses (put s r i u) (cell s k j n)
   unfolding addr real
   by_record {i} {j} {n} {u} = forced (λ e g a. raw_off (put s r i u) (cell s k j n) a
-      (clear_records s.records s.width r k i j (length (say u)) n (has_in s r (and_left _ _ e)).low (has_in s k (and_left _ _ g)).low (Ne·symm d)
+      (clear_records s.records s.width r k i j (length (say u)) n (has_in s r (and_left _ _ e)).low (has_in s k (and_left _ _ g)).low (Ne-symm d)
       (leb-true _ _ (and_right (has s r) _ e)) (leb-true _ _ (and_right (has s k) _ g))))
 
   pub by_flag : {b : Bool} → Misses (turn s r b) (flag s k)

@@ -1,7 +1,7 @@
 -- A line's delete: never refused, and every rule about the base holds again with the line gone from each path of its set; every other line lives on.
 use Rattle.std.specs.Prelude.{◌≡◌, refl, ◌≢◌, ◌⊎◌, List, ◌∷◌, true, false, ℕ, ◌+◌, ◌*◌, eqb}
 use Rattle.std.proofs.Common.{sym, ◌∙◌, subst, inl, inr, arith, eq-eqb, ne_eqb}
-use Rattle.std.proofs.Math.Logic.{Ne·symm}
+use Rattle.std.proofs.Math.Logic.{Ne-symm}
 use Rattle.std.proofs.Math.Decide.{ℕ_discrete}
 use Rattle.spec.specs.Root.{kind, path_count, path_master, detail, root_good}
 use Rattle.spec.specs.Layout.{shape_of, master_of, path_of, detail_of}
@@ -53,10 +53,10 @@ module _ {root : List ℕ} (g : root_good root ≡ true) {L : Lines} {freed : �
   still_live = M.maps s r S D ∙ live
 
   kept : (t : ℕ) → IsSet root t → t ≢ s → Kept (shape_of root t) b c
-  kept t T n = N.sets (shape_of root t) (sets_beside root g S T (Ne·symm n))
+  kept t T n = N.sets (shape_of root t) (sets_beside root g S T (Ne-symm n))
 
   kept_master : (m : ℕ) → IsSet root m → detail (kind root m) ≡ false → Kept (shape_of root m) b c
-  kept_master m T E = kept m T (Ne·symm (detail_other root D E))
+  kept_master m T E = kept m T (Ne-symm (detail_other root D E))
 
   kept_to : (t q : ℕ) → IsPath root t q → Kept (path_of root t q).to.shape b c
   unfolding path_of master_of

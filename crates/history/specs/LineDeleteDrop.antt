@@ -3,7 +3,7 @@
 use Rattle.std.specs.Prelude.{◌≡◌, ◌≢◌, List, true, false, ℕ, ◌+◌, ◌*◌, ◌<◌, length}
 use Rattle.std.proofs.Math.Path.{sym, subst}
 use Rattle.std.proofs.Common.{ap, ◌∙◌, inl, inr, true≢false, arith}
-use Rattle.std.proofs.Math.Logic.{Ne·symm}
+use Rattle.std.proofs.Math.Logic.{Ne-symm}
 use Rattle.std.proofs.Math.Decide.{ℕ_discrete}
 use Rattle.spec.specs.Root.{kind, path_master, automatic, detail, root_good}
 use Rattle.spec.specs.Layout.{area_length, shape_of, master_of, path_of, heads_of}
@@ -33,7 +33,7 @@ module _ {root : List ℕ} (g : root_good root ≡ true) {L : Lines} {freed : �
 
   kept : (t : ℕ) → IsSet root t → t ≢ m → Kept (shape_of root t) b c
   unfolding master_of
-  kept t S n = R.others (shape_of root t) (sets_beside root g T S (Ne·symm n))
+  kept t S n = R.others (shape_of root t) (sets_beside root g T S (Ne-symm n))
 
   kept_detail : (t : ℕ) → IsSet root t → detail (kind root t) ≡ true → Kept (shape_of root t) b c
   kept_detail t S E = kept t S (detail_other root E D)

@@ -3,7 +3,7 @@
 use Rattle.std.specs.Prelude.{◌≡◌, ◌≢◌, ◌⊎◌, List, true, false, ℕ, ◌+◌, ◌*◌}
 use Rattle.std.proofs.Common.{sym, ◌∙◌, inl, inr}
 use Rattle.std.proofs.Math.Path.{ap, subst}
-use Rattle.std.proofs.Math.Logic.{Ne·symm}
+use Rattle.std.proofs.Math.Logic.{Ne-symm}
 use Rattle.std.proofs.Math.Decide.{ℕ_discrete}
 use Rattle.spec.specs.Root.{kind, path_master, automatic, detail, root_good}
 use Rattle.spec.specs.Layout.{area_length, shape_of, master_of, path_of}
@@ -40,13 +40,13 @@ module _ {root : List ℕ} (g : root_good root ≡ true) {L : Lines} {freed : �
   -- the sets that are not written
   kept : (t : ℕ) → IsSet root t → t ≢ s → t ≢ path_master root s i → Kept (shape_of root t) b c
   unfolding path_of master_of
-  kept t T n n' = o.frame.sets (shape_of root t) (sets_beside root g H.set T (Ne·symm n)) (sets_beside root g (leads_to root g H) T (Ne·symm n'))
+  kept t T n n' = o.frame.sets (shape_of root t) (sets_beside root g H.set T (Ne-symm n)) (sets_beside root g (leads_to root g H) T (Ne-symm n'))
 
   kept_detail : (t : ℕ) → IsSet root t → detail (kind root t) ≡ true → t ≢ s → Kept (shape_of root t) b c
   kept_detail t T D n = kept t T n (detail_other root D (leads_master root g H))
 
   kept_master : (m : ℕ) → IsSet root m → detail (kind root m) ≡ false → m ≢ path_master root s i → Kept (shape_of root m) b c
-  kept_master m T D n = kept m T (Ne·symm (detail_other root H.lines D)) n
+  kept_master m T D n = kept m T (Ne-symm (detail_other root H.lines D)) n
 
   -- the masters
   own_master : MasterInv (area_length root) (master_of root (path_master root s i)) c
@@ -79,14 +79,14 @@ module _ {root : List ℕ} (g : root_good root ≡ true) {L : Lines} {freed : �
   other_on t q G n n' = subst (On _ _ c) (sym (half_else L s r i t q n')) (apart_on S P o.frame (apart t q G n) (M.ons t q G))
 
   on_after : (t q : ℕ) → IsPath root t q → Dec (t ≡ s) → Dec (q ≡ i) → On (shape_of root t) (path_of root t q) c (half L s r (i + 1) t q)
-  on_after t q G (no n) _ = other_on t q G (inr (Ne·symm n)) (inl n)
-  on_after t q G (yes z) (no n) = other_on t q G (inl (sym z, Ne·symm n)) (inr n)
+  on_after t q G (no n) _ = other_on t q G (inr (Ne-symm n)) (inl n)
+  on_after t q G (yes z) (no n) = other_on t q G (inl (sym z, Ne-symm n)) (inr n)
   on_after t q G (yes z) (yes y) = subst (λ u. On (shape_of root u) (path_of root u q) c (half L s r (i + 1) u q)) (sym z)
       (subst (λ w. On (shape_of root s) (path_of root s w) c (half L s r (i + 1) s w)) (sym y) (subst (On _ _ c) (sym (half_next L s r i)) o.on))
 
   tie_after : (t q : ℕ) → IsPath root t q → Dec (t ≡ s) → Tie (shape_of root t) (path_of root t q) c (L t q)
   tie_after t q G (yes z) = subst (λ u. Tie (shape_of root u) (path_of root t q) b (L t q) → Tie (shape_of root u) (path_of root t q) c (L t q)) (sym z) (frame_tie S P o.frame) (M.ties t q G)
-  tie_after t q G (no n) = apart_tie S P o.frame (apart t q G (inr (Ne·symm n))) (M.ties t q G)
+  tie_after t q G (no n) = apart_tie S P o.frame (apart t q G (inr (Ne-symm n))) (M.ties t q G)
 
   pub unlinked_middle : Middle root L freed s r a (i + 1) c
   unlinked_middle = record {

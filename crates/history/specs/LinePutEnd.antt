@@ -2,7 +2,7 @@
 use Rattle.std.specs.Prelude.{◌≡◌, refl, ◌≢◌, List, true, false, ℕ, suc, ◌+◌, ◌*◌, eqb}
 use Rattle.std.proofs.Common.{sym, ◌∙◌, arith, eq-eqb, ne_eqb}
 use Rattle.std.proofs.Math.Path.{ap, subst}
-use Rattle.std.proofs.Math.Logic.{Ne·symm}
+use Rattle.std.proofs.Math.Logic.{Ne-symm}
 use Rattle.std.proofs.Math.Bool.{true≢false}
 use Rattle.std.proofs.Math.Decide.{ℕ_discrete}
 use Rattle.spec.specs.declared.Taken.{Taken}
@@ -31,7 +31,7 @@ module _ (root : List ℕ) (g : root_good root ≡ true) {L : Lines} {s : ℕ} (
     (I : FreeInv (shape_of root s) a (freed s)) (K : Took (shape_of root s) a (freed s) u)
     (M : Middle root L s u.at freed a (lines_to root L s entry u.at (suc (path_count root s))) b) (H : Uses root b) (N : Settled (shape_of root s) u entry b c) where
   settled_set : (t : ℕ) → Set root t → t ≢ s → Kept (shape_of root t) b c
-  settled_set t T d = N.sets (shape_of root t) (beside root g s t (as_set S) T (Ne·symm d))
+  settled_set t T d = N.sets (shape_of root t) (beside root g s t (as_set S) T (Ne-symm d))
 
   settled_master : (t : ℕ) → IsSet root t → detail (kind root t) ≡ false → MasterInv (area_length root) (master_of root t) c
   settled_master t T h = master_kept (M.masters t T h) (N.size ∙ M.size)

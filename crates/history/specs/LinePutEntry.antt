@@ -3,7 +3,7 @@
 use Rattle.std.specs.Prelude.{◌≡◌, refl, ◌≢◌, ◌⊎◌, true, false, length}
 use Rattle.std.proofs.Common.{sym, ◌∙◌, subst, true≢false, arith, length-drop, length-take-le}
 use Rattle.std.proofs.Math.Path.{ap}
-use Rattle.std.proofs.Math.Logic.{Ne·symm, inl, inr}
+use Rattle.std.proofs.Math.Logic.{Ne-symm, inl, inr}
 use mathlib.Core.List.{List}
 use Prim.Native.Nat.{ℕ, ◌+◌, ◌*◌, ◌≤◌}
 use Rattle.std.proofs.Math.Decide.{ℕ_discrete}
@@ -48,7 +48,7 @@ module _ (root : List ℕ) (g : root_good root ≡ true) {L : Lines} {s r : ℕ}
   -- every other set
   made_set : (t : ℕ) → Set root t → t ≢ n → Kept (shape_of root t) b u.area
   unfolding master_of
-  made_set t T d = U.others (shape_of root t) (beside root g n t (as_set N) T (Ne·symm d))
+  made_set t T d = U.others (shape_of root t) (beside root g n t (as_set N) T (Ne-symm d))
 
   made_detail : (t : ℕ) → IsSet root t → detail (kind root t) ≡ true → Kept (shape_of root t) b u.area
   made_detail t T h = made_set t (as_set T) (λ z. true≢false (sym h ∙ ap (λ x. detail (kind root x)) z ∙ e))

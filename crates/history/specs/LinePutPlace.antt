@@ -3,7 +3,7 @@
 use Rattle.std.specs.Prelude.{◌≡◌, ◌≢◌, ◌⊎◌, List, true, false, ℕ, ◌+◌, ◌*◌, length}
 use Rattle.std.proofs.Math.Path.{sym, ap, subst}
 use Rattle.std.proofs.Common.{◌∙◌, inl, inr, arith}
-use Rattle.std.proofs.Math.Logic.{Ne·symm}
+use Rattle.std.proofs.Math.Logic.{Ne-symm}
 use Rattle.std.proofs.Math.Bool.{true≢false}
 use Rattle.std.proofs.Math.Decide.{ℕ_discrete}
 use Rattle.spec.specs.declared.Shape.{Shape}
@@ -50,7 +50,7 @@ module _ (root : List ℕ) (g : root_good root ≡ true) {L : Lines} {s r : ℕ}
   -- a set that is neither this detail nor the path's master
   placed_set : (t : ℕ) → Set root t → t ≢ s → t ≢ path_master root s i → Kept (shape_of root t) b o.area
   unfolding path_of master_of
-  placed_set t X d n = o.frame.sets (shape_of root t) (beside root g s t (as_set P.set) X (Ne·symm d)) (beside root g (path_master root s i) t W.to X (Ne·symm n))
+  placed_set t X d n = o.frame.sets (shape_of root t) (beside root g s t (as_set P.set) X (Ne-symm d)) (beside root g (path_master root s i) t W.to X (Ne-symm n))
 
   placed_detail : (t : ℕ) → IsSet root t → detail (kind root t) ≡ true → t ≢ s → Kept (shape_of root t) b o.area
   placed_detail t X h d = placed_set t (as_set X) d (λ z. true≢false (sym h ∙ ap (λ x. detail (kind root x)) z ∙ W.to_master.not_detail))
@@ -60,16 +60,16 @@ module _ (root : List ℕ) (g : root_good root ≡ true) {L : Lines} {s r : ℕ}
   unfolding path_of master_of
   placed_master t X h (yes z) = subst (λ x. MasterInv (area_length root) (master_of root x) o.area) (sym z)
       (master_same (M.masters (path_master root s i) T W.to_master.not_detail) long (frame_entries S O o.frame) o.frame.to_leads
-      (λ j e. o.frame.to_records j 0 _ (Ne·symm (live_other b _ k j live e))))
+      (λ j e. o.frame.to_records j 0 _ (Ne-symm (live_other b _ k j live e))))
   placed_master t X h (no d) = master_kept (M.masters t X h) long (placed_set t (as_set X) (λ z. true≢false (sym P.lines ∙ ap (λ x. detail (kind root x)) (sym z) ∙ h)) d)
 
   -- this path has the line, and the others are as they were
   placed_on : (t q : ℕ) → IsPath root t q → Dec (t ≡ s) → Dec (q ≡ i) → On (shape_of root t) (path_of root t q) o.area (lines_to root L s entry r (i + 1) t q)
   placed_on t q X (yes y) (yes z) = rw (y, z, lines_done root L s entry r (i + 1) i (omega arith)) o.on
   placed_on t q X (yes y) (no d) = rw (lines_step root L s entry r i t q (inr d))
-      (apart_on S O o.frame (paths_apart root g s i t q (as_set P.set) (as_set X.set) D (as_detail root g t X.set X.lines) (as_way P) (as_way X) (inl (sym y, Ne·symm d))) (M.ons t q X))
+      (apart_on S O o.frame (paths_apart root g s i t q (as_set P.set) (as_set X.set) D (as_detail root g t X.set X.lines) (as_way P) (as_way X) (inl (sym y, Ne-symm d))) (M.ons t q X))
   placed_on t q X (no d) _ = rw (lines_step root L s entry r i t q (inl d))
-      (apart_on S O o.frame (paths_apart root g s i t q (as_set P.set) (as_set X.set) D (as_detail root g t X.set X.lines) (as_way P) (as_way X) (inr (Ne·symm d))) (M.ons t q X))
+      (apart_on S O o.frame (paths_apart root g s i t q (as_set P.set) (as_set X.set) D (as_detail root g t X.set X.lines) (as_way P) (as_way X) (inr (Ne-symm d))) (M.ons t q X))
 
   placed_tie : (t q : ℕ) → IsPath root t q → Dec (t ≡ s) → Tie (shape_of root t) (path_of root t q) o.area (L t q)
   placed_tie t q X (yes y) = subst (λ x. Tie (shape_of root x) (path_of root t q) b (L t q) → Tie (shape_of root x) (path_of root t q) o.area (L t q)) (sym y) (frame_tie S O o.frame) (M.ties t q X)

@@ -3,7 +3,7 @@
 use Rattle.std.specs.Prelude.{◌≡◌, ◌≢◌, ◌⊎◌, Bool, true, length, get_or, eqb}
 use Rattle.std.proofs.Math.Path.{refl, sym, ap, subst}
 use Rattle.std.proofs.Common.{◌∙◌, true≢false, zero-add, eqb-true, eq-eqb, ne_eqb, lt-ltb}
-use Rattle.std.proofs.Math.Logic.{Ne·symm, inl, inr, dite}
+use Rattle.std.proofs.Math.Logic.{Ne-symm, inl, inr, dite}
 use mathlib.Core.List.{List, [], ◌∷◌}
 use Rattle.std.proofs.Math.Bool.{false, cond}
 use Prim.Native.Nat.{ℕ, zero, suc, ◌+◌, ◌-◌, ◌*◌, ◌≤◌, ◌<◌}
@@ -186,7 +186,7 @@ module _ {size : ℕ} {m : Master} (M : MasterOk size m) (a : Area) (l : length 
   succeeds =
       let E = erased M taken_over (ran_length taking ∙ l) f F in
       let K = E.rest.cells in
-      let rf = Ne·symm fr in
+      let rf = Ne-symm fr in
       let flags : (j : ℕ) → j ≢ f → alive (erase m taken_over f) m.shape j ≡ alive a m.shape j = λ j d. E.rest.flags j d ∙ ran_alive taking m.shape j (by_kind M.sane refl tt ⨾ by_kind M.sane refl tt ⨾ by_kind M.sane refl tt ⨾ by_kind M.sane refl tt ⨾ by_kind M.sane refl tt ⨾ tt) in
       let rest : (j i n : ℕ) → j ≢ f → j ≢ r → 5 ≤ i → held (erase m taken_over f) (cell m.shape j i n) ≡ held a (cell m.shape j i n) = λ j i n d u w. K j i n d ∙ ran_held taking _ (by_record u ⨾ by_record u ⨾ by_record u ⨾ by_record u ⨾ by_place (inl (omega arith)) ⨾ tt) in
       record {
@@ -277,7 +277,7 @@ module _ {size : ℕ} {m : Master} (M : MasterOk size m) {a : Area} (I : MasterI
         gone_done _ (rechain (address m) m.shape.cap (entries m a) (entries m (cut m a r words lower)) g _ I.syn I.chains
         (gone (address m) m.shape.cap (entries m a) (entries m (cut m a r words lower)) g r I.syn I.chains Y.live Y.count Y.place.pre Y.place.post Y.place.whole C.step)) C.own C.out
         record { was = C.out.dead; now = lr; moved = inl refl; flags = λ j d _. sym (C.flags j d); loads = λ j d _. sym (C.loads j d) }
-        (λ j k z d _. C.wholes j _ d (Ne·symm (live_other a m.shape g j Y.live z)) (Ne·symm (live_other a m.shape _ j Y.behind z)) (link_off j _ k z Y.ahead.live))
+        (λ j k z d _. C.wholes j _ d (Ne-symm (live_other a m.shape g j Y.live z)) (Ne-symm (live_other a m.shape _ j Y.behind z)) (link_off j _ k z Y.ahead.live))
 
     lowered_right : lowered m a r ≡ accept lower
     unfolding lowered entries

@@ -3,7 +3,7 @@
 use Rattle.std.specs.Prelude.{◌≡◌, ◌≢◌, ◌⊎◌, cond, ℕ, ◌+◌, ◌-◌, ◌≤◌, ◌<◌, length, eqb}
 use Rattle.std.proofs.Math.Path.{refl, sym, ap, subst}
 use Rattle.std.proofs.Common.{◌∙◌, arith, eqb-true, eq-eqb, ne_eqb, lt-ltb, le-ltb}
-use Rattle.std.proofs.Math.Logic.{Ne·symm, inl, inr, dite}
+use Rattle.std.proofs.Math.Logic.{Ne-symm, inl, inr, dite}
 use mathlib.Core.List.{List, [], ◌∷◌}
 use Rattle.std.proofs.Math.Bool.{true, false}
 use Rattle.std.proofs.Math.Decide.{ℕ_discrete}
@@ -162,7 +162,7 @@ module _ {size : ℕ} {m : Master} (M : MasterOk size m) (a : Area) (l : length 
   bits j d u = ran_alive cleared m.shape j (by_flag u ⨾ by_flag d ⨾ by_kind M.sane refl tt ⨾ by_kind M.sane refl tt ⨾ by_kind M.sane refl tt ⨾ tt)
 
   goes_live : alive emptied m.shape f ≡ true
-  goes_live = shows_alive cleared l m.shape f true (by_flag (Ne·symm hf) ▸ here (gives_turn M.sane F))
+  goes_live = shows_alive cleared l m.shape f true (by_flag (Ne-symm hf) ▸ here (gives_turn M.sane F))
 
   named : val emptied (cell m.shape k 1 2) ≡ f
   named = shows_val cleared l _ (by_kind M.sane refl tt ▸ by_kind M.sane refl tt ▸ by_record qf ▸ here (gives_put M.sane record { row = Q; wide = omega (arith, M.sane.filled, M.front) } refl)) (two_val f (omega (arith, F.high, M.sane.cap_high)))
@@ -208,8 +208,8 @@ module _ {size : ℕ} {m : Master} (M : MasterOk size m) (a : Area) (l : length 
         unheld = U;
         dead = moves.gone;
         step = moves;
-        live = flag f (Ne·symm hf) ∙ goes_live;
-        moved_load = word f _ _ (Ne·symm hf) ∙ copied 5 _ (omega (arith, M.sane.filled, M.front));
+        live = flag f (Ne-symm hf) ∙ goes_live;
+        moved_load = word f _ _ (Ne-symm hf) ∙ copied 5 _ (omega (arith, M.sane.filled, M.front));
         flags = λ j u d. flag j u ∙ bits j d u;
         loads = λ j u d. word j _ _ u ∙ place_5 _ _ (omega arith) j d;
         wholes = λ j i u d v w. word j _ _ u ∙ ran_held cleared _ (by_kind M.sane refl tt ⨾ by_kind M.sane refl tt ⨾ by_record d ⨾ by_record w ⨾ by_record v ⨾ tt);
@@ -309,7 +309,7 @@ module _ {size : ℕ} {m : Master} (M : MasterOk size m) {a : Area} (I : MasterI
         let R = new_second (address m) m.shape.cap (entries m a) (entries m joins) h f (value m.key entry) I.syn I.chains lh ch df (F.low, F.high) refl fresh N in
         put_done _ (rechain (address m) m.shape.cap (entries m a) (entries m joins) h _ I.syn I.chains R) D.own D.new
         record { was = df; now = D.new.live; moved = inl refl; flags = λ j d _. D.flags j d; loads = λ j d _. D.loads j d }
-        (λ j z d _. D.wholes j _ d (Ne·symm (live_other a m.shape h j lh z)) (Ne·symm (live_other a m.shape behind j behind_live z)))
+        (λ j z d _. D.wholes j _ d (Ne-symm (live_other a m.shape h j lh z)) (Ne-symm (live_other a m.shape behind j behind_live z)))
 
     put_joined : (entries m a).cnt h ≢ 0 → join m a h words f entry ≡ accept record { at = f; area = joins }
     unfolding join
@@ -341,9 +341,9 @@ module _ {size : ℕ} {m : Master} (M : MasterOk size m) {a : Area} (I : MasterI
       k_facts = go Y.ahead.live (ℕ_discrete ahead 0)
         where
           go : (ahead ≡ 0) ⊎ (alive a m.shape ahead ≡ true) → Dec (ahead ≡ 0) → (alive a m.shape k ≡ true) × (h ≢ k)
-          go _ (yes e) = rw (k_home e) (Y.live, Ne·symm Y.off)
+          go _ (yes e) = rw (k_home e) (Y.live, Ne-symm Y.off)
           go (inl e) (no d) = absurd (d e)
-          go (inr e) (no d) = rw (k_next d) (e, Ne·symm Y.ahead.off)
+          go (inr e) (no d) = rw (k_next d) (e, Ne-symm Y.ahead.off)
 
       abbrev displaces : Area
       displaces = enter m (relink m a h (val a (cell m.shape h 1 2)) k f) h lone entry
@@ -354,13 +354,13 @@ module _ {size : ℕ} {m : Master} (M : MasterOk size m) {a : Area} (I : MasterI
           let H = alive_in a h lh in
           let kl = k_facts.0 in
           let D = displaced M a I.long g h k f H (alive_in a _ Y.behind) (alive_in a k kl) F (live_other a m.shape h f lh df) (live_other a m.shape _ f Y.behind df) (live_other a m.shape k f kl df)
-          (Ne·symm Y.behind_off) k_facts.1 none k_next k_home entry n in
+          (Ne-symm Y.behind_off) k_facts.1 none k_next k_home entry n in
           let J = rechain (address m) m.shape.cap (entries m a) (entries m D.without) g _ I.syn I.chains
           (moved (address m) m.shape.cap (entries m a) (entries m D.without) g h f I.syn I.chains Y.live Y.count Y.place.pre Y.place.post Y.place.whole df (F.low, F.high) D.step) in
           put_done _ (rechain (address m) m.shape.cap (entries m D.without) (entries m displaces) h [] _ J
           (new_primary (address m) m.shape.cap (entries m D.without) (entries m displaces) h (value m.key entry) _ J D.dead (H.low, H.high) refl (as_primary D.new D.unheld))) D.own D.new
           record { was = df; now = D.new.live; moved = inr (lh, D.live, D.moved_load); flags = D.flags; loads = D.loads }
-          (λ j z u d. D.wholes j _ u d (Ne·symm (live_other a m.shape _ j Y.behind z)) (Ne·symm (live_other a m.shape k j kl z)))
+          (λ j z u d. D.wholes j _ u d (Ne-symm (live_other a m.shape _ j Y.behind z)) (Ne-symm (live_other a m.shape k j kl z)))
 
       named_right : named_by m a h words ≡ accept k
       unfolding named_by last_primary entries

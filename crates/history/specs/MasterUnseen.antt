@@ -2,7 +2,7 @@
 -- synonym words, leading words and unused records are then as they were. So placing a line and unlinking one keep the invariant of the path's master.
 use Rattle.std.specs.Prelude.{◌≡◌, refl, ◌≢◌, List, [], ◌∷◌, Bool, true, false, cond, ℕ, ◌+◌, ◌≤◌, length, eqb}
 use Rattle.std.proofs.Common.{ap, ◌∙◌, inl, inr, arith}
-use Rattle.std.proofs.Math.Logic.{Ne·symm}
+use Rattle.std.proofs.Math.Logic.{Ne-symm}
 use Rattle.std.proofs.Math.Decide.{ℕ_discrete}
 use Rattle.spec.specs.declared.Shape.{Shape}
 use Rattle.spec.specs.declared.Head.{Head}
@@ -47,7 +47,7 @@ module _ {size : ℕ} {m : Master} (S : Sane size m.shape) {a : Area} where
     flags = λ k. by_kind S refl tt;
     synonyms = λ k j n h. by_place (inr (omega arith));
     entry = λ k j n h. by_place (inl (omega arith));
-    unused = λ k j n d. by_record (Ne·symm (live_other a m.shape r k l d));
+    unused = λ k j n d. by_record (Ne-symm (live_other a m.shape r k l d));
   }
 
 -- a write made only if a test holds
@@ -121,7 +121,7 @@ pub rewritten : {size : ℕ} {m : Master} {a : Area} → MasterOk size m → Mas
     → value m.key entry ≡ (entries m a).key r → Rewritten size m a (put_entry_at m.shape a r entry) r entry
 unfolding entries heads
 rewritten {m = m} {a = a} M I r entry l n e = record {
-  whole = master_same I (ran_length R ∙ I.long) same (λ i. ran_val R (lead m.shape i) (by_kind M.sane refl tt ⨾ tt)) (λ j d. rest j 0 m.shape.width (Ne·symm (live_other a m.shape r j l d)));
+  whole = master_same I (ran_length R ∙ I.long) same (λ i. ran_val R (lead m.shape i) (by_kind M.sane refl tt ⨾ tt)) (λ j d. rest j 0 m.shape.width (Ne-symm (live_other a m.shape r j l d)));
   same = same;
   stored = stored;
   rest = rest;

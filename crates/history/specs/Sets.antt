@@ -3,7 +3,7 @@
 use Rattle.std.specs.Prelude.{◌≡◌, ◌≢◌, ◌⊎◌, List, true, false, ℕ, ◌+◌, ◌-◌, ◌*◌, ◌≤◌, ◌<◌, length}
 use Rattle.std.proofs.Math.Path.{refl, ap, subst}
 use Rattle.std.proofs.Common.{sym, ◌∙◌}
-use Rattle.std.proofs.Math.Logic.{Ne·symm, inl, inr, dite}
+use Rattle.std.proofs.Math.Logic.{Ne-symm, inl, inr, dite}
 use native.Mathlib.Omega.{arith}
 use Rattle.std.proofs.Math.Decide.{ℕ_discrete, dec_lt}
 use Rattle.std.proofs.Math.ListN.{get_or}
@@ -132,7 +132,7 @@ module _ (root : List ℕ) (g : root_good root ≡ true) where
 
       sorted : (path_sort root s p ≡ 0) ⊎ Sorted root s p → path_sort root s p ≢ 0 → Inside (shape_of root s).entry (sort_of root s p) × Off (field_of root s (path_search root s p)) (sort_of root s p)
       sorted (inl z) n = absurd (n z)
-      sorted (inr o) n = rw (sort_field s p n) (o.item.inside, fields_off root s _ _ W.search o.item (Ne·symm o.other))
+      sorted (inr o) n = rw (sort_field s p n) (o.item.inside, fields_off root s _ _ W.search o.item (Ne-symm o.other))
 
   pub detail_ok : (s : ℕ) → Set root s → DetailSet root s → DetailOk (area_length root) (detail_of root s)
   unfolding detail_of path_of master_of

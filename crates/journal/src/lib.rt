@@ -1,6 +1,8 @@
 // "Each call is worked as if on a copy: a refusal at any step leaves the original." Every word that a step overwrites is put
 // down in a journal first, and a refused call is rewound. A journal is a lent slice with the count of its entries; one that
 // has no room left takes no more, and then cannot be rewound (a call that refuses before it writes lends an empty one).
+#![tactic(auto)]
+
 ghost use Rattle.std.specs.Prelude.{◌≡◌, ◌∷◌, [], ◌+◌, ◌-◌, ◌*◌, ◌≤◌, ◌<◌, ◌^◌, length, take, drop, set, replicate};
 ghost use Rattle.std.proofs.lemmas.List.Edits.{sets};
 ghost use Rattle.spec.specs.Words.{long_words};

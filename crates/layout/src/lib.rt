@@ -1,4 +1,6 @@
 // The layout that a good root means (−92), and views of its sets as plain numbers.
+#![tactic(auto)]
+
 ghost use Rattle.std.specs.Prelude.{◌≡◌, true, ◌++◌, ◌∷◌, [], ◌+◌, ◌-◌, ◌*◌, ◌≤◌, ◌<◌, eqb, length, take};
 ghost use Rattle.spec.specs.Root.{sets, kind, path_count, path_master, leading, has_item, root_good};
 ghost use Rattle.spec.specs.Layout.{entry_length, field_of, head_of, sort_of, heads_of, front_words, size_of, start_of, area_length};
@@ -95,7 +97,7 @@ fn sized(
 }
 
 // Whether the root keeps its rules, whether the area is as long as it means, and if so the plan.
-#[derive(Drop)]
+#[derive(Clone, Copy)]
 pub struct Verdict {
     pub root: bool,
     pub size: bool,
@@ -150,7 +152,7 @@ pub fn field_of(root: &[u16], s: u16, item: u16) -> spec::Field
 }
 
 // The capacities that the heads of a master are held against, in the order of the heads.
-#[derive(Drop)]
+#[derive(Clone, Copy)]
 pub struct Heads {
     pub count: u16,
     pub caps: [u16; 8],
@@ -232,7 +234,7 @@ pub fn shape_of(root: &[u16], plan: root::Plan, s: u16) -> spec::Shape
 }
 
 // A master's kind and key.
-#[derive(Drop)]
+#[derive(Clone, Copy)]
 struct Key {
     auto: bool,
     text: bool,
@@ -313,7 +315,7 @@ fn sort_of(root: &[u16], s: u16, p: u16) -> spec::Field
 }
 
 // A path's search item, whether it is sorted, and its sort item.
-#[derive(Drop)]
+#[derive(Clone, Copy)]
 struct Sides {
     search: spec::Field,
     sorted: bool,

@@ -1,5 +1,7 @@
 // "Detail steps", delete, on one chain: what is read of the line that goes, its unlinking, and the dropping of a master entry
 // that has no lines left. What is written is in the journal, so a refusal on a later path leads back.
+#![tactic(auto)]
+
 ghost use Rattle.std.specs.Prelude.{◌≡◌, ◌+◌, ◌-◌, ◌*◌, ◌≤◌, ◌<◌, ◌^◌, length};
 ghost use Rattle.spec.specs.Detail.{unlink_neighbours as neighbours_unlinked, old_ends as ended, link_out as linked_out, drop_empty as empty_dropped, hung as hung_in};
 ghost use Rattle.journal.specs.Journal.{Back};
@@ -77,7 +79,7 @@ pub fn drop_empty(
 }
 
 // What is read of a line on its chain; or answer 18.
-#[derive(Drop)]
+#[derive(Clone, Copy)]
 pub enum HungRead {
     On(Hung),
     Broken,

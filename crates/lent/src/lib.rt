@@ -1,4 +1,6 @@
 // What a host lends: sixteen cursors as 64 numbers, status and passed numbers as words; and characters packed into words.
+#![tactic(auto)]
+
 ghost use Rattle.std.specs.Prelude.{◌≡◌, ◌+◌, ◌*◌, ◌/◌, ◌%◌, ◌≤◌, ◌<◌, length, get_or};
 ghost use Rattle.std.proofs.lemmas.List.Edits.{sets};
 ghost use Rattle.lent.specs.Lent.{cursor_at, cursors_of, cursor_words, session_words, packed, unpacked};

@@ -1,16 +1,18 @@
 // A line that a person or a script wrote: its words one after another, a word read as a number, and words compared.
+#![tactic(auto)]
+
 ghost use Rattle.std.specs.Prelude.{◌≡◌, ◌+◌, ◌≤◌, ◌<◌, eqb, length, drop};
 ghost use Rattle.lines.specs.Lines.{blank, letter, other, first, upper_case, alike, number};
 
 // From the first byte of a word to the byte past its last.
-#[derive(Drop)]
+#[derive(Clone, Copy)]
 pub struct Word {
     pub at: usize,
     pub end: usize,
 }
 
 // A word that is a decimal number up to 4294967295, or that isn't.
-#[derive(Drop)]
+#[derive(Clone, Copy)]
 pub enum Number {
     Given(u32),
     Bad,

@@ -1,6 +1,8 @@
 // The C interface. A slice passes as a pointer and a count; cursors are 64 numbers, four a set; status has ten words. A function
 // returns 0 if the call was worked (the status tells how it went) and 1 if cursors, status or passed do not have their lengths:
 // then nothing is written.
+#![tactic(auto)]
+
 ghost use Rattle.std.specs.Prelude.{◌≡◌, length};
 ghost use Rattle.spec.specs.Calls.{make as make_base, find as find_chain, get as get_entry, put as put_entry, update as update_entry, delete as delete_entry};
 ghost use Rattle.lent.specs.Lent.{cursors_of, session_words};

@@ -1,5 +1,7 @@
 // Put, update and delete on a master set with its cursor, up to their outcome. Where the outcome is a refusal, the area is as it
 // was: each step reads before it writes, so no journal is kept (one without room is lent).
+#![tactic(auto)]
+
 ghost use Rattle.std.specs.Prelude.{◌≡◌, true, [], ◌≤◌, ◌<◌, length};
 ghost use Rattle.spec.specs.Root.{root_good};
 ghost use Rattle.spec.specs.Layout.{a_master, heads_of as heads_in};

@@ -1,5 +1,7 @@
 // "Master steps", delete: a secondary is unlinked, a primary goes or is replaced by its first secondary. A step reads before it
 // writes, so one that refuses has written nothing.
+#![tactic(auto)]
+
 ghost use Rattle.std.specs.Prelude.{◌≡◌, cond, ◌+◌, ◌-◌, ◌*◌, ◌≤◌, eqb};
 ghost use Rattle.spec.specs.Area.{copy_part, set_synonym_count as count_set, mend_synonym_back as back_mended, set_synonyms as synonyms_set};
 ghost use Rattle.spec.specs.Master.{erase as erased, new_last as lasted, close_up as closed_up, cut as cut_out, unlink as unlinked, promoted as promoted_to, promote as promoted_in, succeed as succeeded, remove_primary as primary_removed, remove_entry as entry_removed};

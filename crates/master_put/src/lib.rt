@@ -1,5 +1,7 @@
 // "Master steps", put: an entry taken in at its primary address, behind the chain's end, or in the place of a secondary that moves
 // away. A step reads before it writes, so one that refuses has written nothing.
+#![tactic(auto)]
+
 ghost use Rattle.std.specs.Prelude.{◌≡◌, cond, ◌+◌, ◌-◌, ◌≤◌, length, eqb};
 ghost use Rattle.spec.specs.Area.{value, put_entry_at, blank as blank_in, set_synonyms as synonyms_set};
 ghost use Rattle.spec.specs.Master.{address as address_of, enter as entered, lone, lengthen as lengthened, join as joined, carry as carried, relink as relinked, move_away as moved_away, displace as displaced, put_held as held_put, put_entry as entry_put};
@@ -15,20 +17,20 @@ use spec::{Head, Master, Refusal, Shape};
 use words::part;
 
 // How a step that writes went: done, or answer 18 with nothing written; and the journal's count.
-#[derive(Drop)]
+#[derive(Clone, Copy)]
 pub struct Went {
     pub ok: bool,
     pub count: usize,
 }
 
 // The record that a put took, or why it was refused.
-#[derive(Drop)]
+#[derive(Clone, Copy)]
 pub enum Entered {
     At(u32),
     Refused(Refusal),
 }
 
-#[derive(Drop)]
+#[derive(Clone, Copy)]
 pub struct PutWent {
     pub entered: Entered,
     pub count: usize,

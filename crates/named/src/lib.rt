@@ -1,4 +1,6 @@
 // What every call asks first: −91, −92, −21 and −93; and the current record that update, delete and mode 1 ask for.
+#![tactic(auto)]
+
 ghost use Rattle.std.specs.Prelude.{◌≡◌, ◌&&◌, ◌-◌, ◌≤◌, leb, get_or};
 ghost use Rattle.spec.specs.Cursor.{fresh, current_record as record_current};
 ghost use Rattle.named.specs.Answers.{found_out, knowing_of, Kinded, Names, fits, kept, Chooses, Knows};
@@ -10,34 +12,34 @@ use session::{Session, cursor_of};
 use spec::{Cursor, Refusal, Shape};
 
 // Whether root and area go together; or why not.
-#[derive(Drop)]
+#[derive(Clone, Copy)]
 pub enum Knowing {
     Yes,
     Refused(Refusal),
 }
 
-#[derive(Drop)]
+#[derive(Clone, Copy)]
 pub struct Knowledge {
     pub knowing: Knowing,
     pub plan: Plan,
 }
 
 // The named set by its kind, or why there is none.
-#[derive(Drop)]
+#[derive(Clone, Copy)]
 pub enum Naming {
     Master,
     Detail,
     Refused(Refusal),
 }
 
-#[derive(Drop)]
+#[derive(Clone, Copy)]
 pub struct Named {
     pub naming: Naming,
     pub plan: Plan,
 }
 
 // The named set by its kind with its cursor, or why there is none.
-#[derive(Drop)]
+#[derive(Clone, Copy)]
 pub struct Chosen {
     pub naming: Naming,
     pub plan: Plan,
@@ -45,7 +47,7 @@ pub struct Chosen {
 }
 
 // A record to be read, or why there is none.
-#[derive(Drop)]
+#[derive(Clone, Copy)]
 pub enum Found {
     At(u32),
     Refused(Refusal),

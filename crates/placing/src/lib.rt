@@ -1,5 +1,7 @@
 // "Detail steps", put, up to one path's turn: the record taken, the master entry, the place of the line and its links. What is
 // written is in the journal, so a refusal on a later path leads back.
+#![tactic(auto)]
+
 ghost use Rattle.std.specs.Prelude.{◌≡◌, ◌+◌, ◌-◌, ◌*◌, ◌≤◌, ◌<◌, ◌^◌, length};
 ghost use Rattle.spec.specs.Area.{set_head_count};
 ghost use Rattle.spec.specs.Detail.{take_freed as freed_taken, take_above as above_taken, take_record as record_taken, missing as missing_put, master_entry as entry_found, pass as passed_by, last_spot as spot_last, spot_for as spot_in, link_neighbours as neighbours_linked, new_ends as ended, link_own as own_linked, link_in as linked_in, place_line as line_placed, put_path as path_put};
@@ -17,27 +19,27 @@ use spec::{Head, Path, Refusal, Shape, Spot, Taken};
 use words::{greater, part};
 
 // The record that a put takes, or why there is none.
-#[derive(Drop)]
+#[derive(Clone, Copy)]
 pub enum Take {
     Record(Taken),
     Refused(Refusal),
 }
 
 // Where a line goes; or answer 18.
-#[derive(Drop)]
+#[derive(Clone, Copy)]
 pub enum SpotRead {
     At(Spot),
     Broken,
 }
 
 // How one path's turn went: the lines passed, or the refusal; and the journal's count.
-#[derive(Drop)]
+#[derive(Clone, Copy)]
 pub enum Placing {
     Passed(u16),
     Refused(Refusal),
 }
 
-#[derive(Drop)]
+#[derive(Clone, Copy)]
 pub struct PathWent {
     pub placing: Placing,
     pub count: usize,
@@ -141,7 +143,7 @@ fn master_entry(area: &mut [u16], jr: &mut [u64], n: usize, p: Path, i: u8, key:
 }
 
 // What a line says to the walk: pass it and go on to the line behind it, stand after it, or answer 18.
-#[derive(Drop)]
+#[derive(Clone, Copy)]
 pub enum Look {
     Pass(u32),
     Stop,

@@ -1,5 +1,7 @@
 // The reading calls, find and get, up to their outcome: each reading step of document 01's table "Get modes", and the links
 // and the number that a get tells.
+#![tactic(auto)]
+
 ghost use Rattle.std.specs.Prelude.{◌≡◌, true, [], ◌-◌, ◌≤◌, get_or};
 ghost use Rattle.spec.specs.declared.Refusal.TheVariants.{NoneBelow};
 ghost use Rattle.spec.specs.Root.{sets, kind, path_count};
@@ -22,14 +24,14 @@ use session::{Good, Outcome, Session, cursor_of, no_links};
 use spec::{Cursor, Links, Master, Path, Refusal, Shape};
 
 // A get's outcome, and the shape of the set that it reads.
-#[derive(Drop)]
+#[derive(Clone, Copy)]
 pub struct Got {
     pub outcome: Outcome,
     pub shape: Shape,
 }
 
 // What a get mode reads: a record by its number, the line ahead or behind on the current path, an entry by its key.
-#[derive(Drop)]
+#[derive(Clone, Copy)]
 pub enum ByNumber {
     Current,
     Above,
@@ -37,13 +39,13 @@ pub enum ByNumber {
     Given,
 }
 
-#[derive(Drop)]
+#[derive(Clone, Copy)]
 pub enum Along {
     Forward,
     Backward,
 }
 
-#[derive(Drop)]
+#[derive(Clone, Copy)]
 pub enum Reading {
     Numbered(ByNumber),
     Chained(Along),

@@ -1,4 +1,6 @@
 // The words of the root, each read as its definition says; what is known of a good root is in specs/.
+#![tactic(auto)]
+
 ghost use Rattle.std.specs.Prelude.{◌≡◌, ◌≤◌, ◌<◌};
 ghost use Rattle.spec.specs.Root.{items, sets, item_type, item_length, description, kind, capacity, item_count, key_item, path_count, set_item, path_master, path_search, path_sort, search_path};
 
@@ -112,7 +114,7 @@ pub fn path_sort(root: &[u16], s: u16, p: u16) -> u16
 
 // What is counted from a root once. For set s, at s - 1: the paths leading to it, the words of its entry, and its start in
 // the area. For path p of set s, at 4 (s - 1) + p - 1: the number of its head among those of its master.
-#[derive(Drop)]
+#[derive(Clone, Copy)]
 pub struct Plan {
     pub leads: [u16; 16],
     pub slots: [u16; 64],

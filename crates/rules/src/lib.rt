@@ -1,4 +1,6 @@
 // The rules of the root (−91), judged in one pass over its sets, with its paths counted on the way.
+#![tactic(auto)]
+
 ghost use Rattle.std.specs.Prelude.{◌≡◌, true, ◌&&◌, ◌||◌, ◌+◌, ◌-◌, ◌*◌, ◌^◌, ◌≤◌, ◌<◌, length, replicate};
 ghost use Rattle.spec.specs.Words.{all};
 ghost use Rattle.spec.specs.Root.{items, sets, item_type, description, item_count, key_item, path_count, is_unsigned, is_text, item_good, item_listed, kind_good, set_good, names_master, fits_key, sort_good, path_good, leading, leading_good, root_length, root_good};
@@ -142,7 +144,7 @@ fn blank(root: &[u16], at: usize, n: usize) -> bool
 }
 
 // A set's items in bits, item i in bit i - 1, their words together, and whether the rules about them hold.
-#[derive(Drop)]
+#[derive(Clone, Copy)]
 struct Listed {
     good: bool,
     bits: u64,

@@ -10,7 +10,7 @@ use root::{
 use spec::Shape;
 
 // Where a set stands in the area, if the root has it.
-#[derive(Drop)]
+#[derive(Clone, Copy)]
 enum Seen {
     At(Shape),
     Nowhere,

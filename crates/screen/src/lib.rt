@@ -1,5 +1,7 @@
 // What a person is shown: numbers and texts, condition words told in a sentence, entries item by item, the sets of a root and
 // how full they are, and maps.
+#![tactic(auto)]
+
 mod condition;
 mod filled;
 

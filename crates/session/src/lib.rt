@@ -1,4 +1,6 @@
 // The session and the answer: sixteen cursors, one replaced per call; ten status words; and how a call's outcome becomes them.
+#![tactic(auto)]
+
 ghost use Rattle.std.specs.Prelude.{◌≡◌, ◌∷◌, [], ◌-◌, ◌≤◌, ◌<◌, get_or, replicate, set as set_at};
 ghost use Rattle.spec.specs.Outcome.{refused_words};
 ghost use Rattle.spec.specs.Cursor.{fresh, no_links as links_none};
@@ -9,13 +11,13 @@ use spec::{Cursor, Links, Refusal};
 use words::{condition, high, low, status_word};
 
 // "The 16 cursors are one array that travels by value."
-#[derive(Drop)]
+#[derive(Clone, Copy)]
 pub struct Session {
     pub cursors: [Cursor; 16],
 }
 
 // "It answers ten status words and the cursors; put also answers the lines passed on each of four paths"
-#[derive(Drop)]
+#[derive(Clone, Copy)]
 pub struct Answer {
     pub status: [u16; 10],
     pub session: Session,
@@ -24,7 +26,7 @@ pub struct Answer {
 
 // What an accepted call tells: the entry's length, the record, the number of status words 5 and 6, the links of 7 to 10, and
 // the named set's cursor.
-#[derive(Drop)]
+#[derive(Clone, Copy)]
 pub struct Good {
     pub size: u16,
     pub at: u32,
@@ -33,7 +35,7 @@ pub struct Good {
     pub cursor: Cursor,
 }
 
-#[derive(Drop)]
+#[derive(Clone, Copy)]
 pub enum Outcome {
     Done(Good),
     Refused(Refusal),

@@ -1,11 +1,13 @@
 // The values that the definitions of specs/ and the functions of the engine share. What the engine computes is said in specs/,
 // and each of its functions is proved against one definition there; here are the cursor's own moves alone.
+#![tactic(auto)]
+
 ghost use Rattle.std.specs.Prelude.{◌≡◌};
 ghost use Rattle.spec.specs.Cursor.{fresh, at_chain, at_record};
 
 // Why a call is refused, one case for each row of document 01's table "Condition words". `number` in specs/Outcome.antt
 // gives each its number; a path's number goes with the two that tell it.
-#[derive(Drop)]
+#[derive(Clone, Copy)]
 pub enum Refusal {
     BadRoot,
     BadLength,
@@ -34,7 +36,7 @@ pub enum Refusal {
 }
 
 // An item's place in the entry, and its length in words.
-#[derive(Drop)]
+#[derive(Clone, Copy)]
 pub struct Field {
     pub at: u16,
     pub size: u16,
@@ -42,7 +44,7 @@ pub struct Field {
 
 // Where a set stands: its first word, the first word of its map and of its records, how many records it has, the words of
 // a record, those of them before the entry, and the words of the entry.
-#[derive(Drop)]
+#[derive(Clone, Copy)]
 pub struct Shape {
     pub start: u32,
     pub map: u32,
@@ -54,7 +56,7 @@ pub struct Shape {
 }
 
 // A master set: whether it is automatic, whether its key is of type X, its key, and how many paths lead to it.
-#[derive(Drop)]
+#[derive(Clone, Copy)]
 pub struct Master {
     pub shape: Shape,
     pub auto: bool,
@@ -65,7 +67,7 @@ pub struct Master {
 
 // A path of a detail set: the master it leads to, where its head stands in a record there, where its links stand in a
 // line, its search item, and its sort item if it is sorted.
-#[derive(Drop)]
+#[derive(Clone, Copy)]
 pub struct Path {
     pub to: Master,
     pub head: u16,
@@ -77,7 +79,7 @@ pub struct Path {
 
 // A count and two links. In a chain head they are count, last and first; in a primary's synonym words count, last and
 // first; in a secondary's 0, previous and next.
-#[derive(Drop)]
+#[derive(Clone, Copy)]
 pub struct Head {
     pub count: u16,
     pub back: u32,
@@ -85,21 +87,21 @@ pub struct Head {
 }
 
 // A secondary's primary, and what its count becomes when the secondary goes.
-#[derive(Drop)]
+#[derive(Clone, Copy)]
 pub struct Lowered {
     pub at: u32,
     pub count: u16,
 }
 
 // The backward and the forward link of a line on one path.
-#[derive(Drop)]
+#[derive(Clone, Copy)]
 pub struct Links {
     pub back: u32,
     pub fore: u32,
 }
 
 // Where a new line goes on a path: the line behind it, the line ahead of it, and how many were passed.
-#[derive(Drop)]
+#[derive(Clone, Copy)]
 pub struct Spot {
     pub behind: u32,
     pub ahead: u32,
@@ -107,14 +109,14 @@ pub struct Spot {
 }
 
 // What a delete reads of a line on one path: its chain's head, and its own links.
-#[derive(Drop)]
+#[derive(Clone, Copy)]
 pub struct Hung {
     pub head: Head,
     pub links: Links,
 }
 
 // The record that a detail put takes, and what the set's two leading words become.
-#[derive(Drop)]
+#[derive(Clone, Copy)]
 pub struct Taken {
     pub at: u32,
     pub mark: u16,
@@ -122,7 +124,7 @@ pub struct Taken {
 }
 
 // "A cursor: current record, current path, saved back, saved forward."
-#[derive(Drop)]
+#[derive(Clone, Copy)]
 pub struct Cursor {
     pub current: u32,
     pub path: u32,

@@ -1,4 +1,6 @@
 // The words of a root that is as long as its counts say: each is inside, so its place is not tested.
+#![tactic(auto)]
+
 ghost use Rattle.std.specs.Prelude.{◌≡◌, ◌+◌, ◌≤◌, ◌<◌, length, get_or};
 ghost use Rattle.spec.specs.Root.{items, sets, item_type, item_length, description, kind, capacity, item_count, key_item, path_count, set_item, path_master, path_search, path_sort, root_length};
 

@@ -1,5 +1,7 @@
 // Words of a lent slice, read and written at any place, and what the definitions compute of them: two-word numbers, runs of
 // words compared, bits of a map, and the signed condition with the word that stores it.
+#![tactic(auto)]
+
 ghost use Rattle.std.specs.Prelude.{◌≡◌, ◌∷◌, [], ◌+◌, ◌/◌, ◌%◌, ◌≤◌, ◌<◌, ◌^◌, length, get_or, set, take, drop, eqb, pos};
 ghost use Rattle.std.proofs.lemmas.List.Edits.{sets};
 ghost use Rattle.spec.specs.Outcome.{number, twos};

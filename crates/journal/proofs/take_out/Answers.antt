@@ -1,0 +1,9 @@
+use Rattle.journal.proofs.Laws.{out_size, out_fits, out_is}
+use borrow.Author.Rules.{rules}
+use Rattle.journal.proofs.take_out.Goals as goal
+
+pub slice_bounds-copy-end : goal.slice_bounds-copy-end
+slice_bounds-copy-end c = search out_fits
+
+pub returns : goal.returns
+returns c = (search out_size, search out_is)

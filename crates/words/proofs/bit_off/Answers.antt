@@ -1,0 +1,6 @@
+use Rattle.spec.specs.Area.{without_bit}
+use borrow.Author.Rules.{rules}
+use Rattle.words.proofs.bit_off.Goals as goal
+
+pub returns : goal.returns
+returns c = unfold without_bit in cc

@@ -1,0 +1,6 @@
+use Rattle.spec.specs.Words.{long}
+use borrow.Author.Rules.{rules}
+use Rattle.words.proofs.long_at.Goals as goal
+
+pub returns : goal.returns
+returns c = unfold long in cc

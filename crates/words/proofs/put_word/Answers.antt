@@ -1,0 +1,7 @@
+use mathlib.Core.Path.{sym}
+use lib.Seq.{set_out}
+use borrow.Author.Rules.{rules}
+use Rattle.words.proofs.put_word.Goals as goal
+
+pub returns-else-i-a : goal.returns-else-i-a
+returns-else-i-a c = sym (set_out _ _ _ c.if-i-a.false)
