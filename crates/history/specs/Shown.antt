@@ -74,7 +74,7 @@ pub data Left (size : ℕ) (x : Spot) (vs : List ℕ) : List Write → Type 0 wh
   here : {w : Write} {ws : List Write} → Gives size w x vs → Left size x vs (w ∷ ws)
   ◌▸◌ : {w : Write} {ws : List Write} → Misses w x → Left size x vs ws → Left size x vs (w ∷ ws)
 
-pub run_left : (ws : List Write) (a : Area) (x : Spot) {size : ℕ} {vs : List ℕ} → length a ≡ size → Left size x vs ws → held (run a ws) x ≡ vs
+pub run_left : {size : ℕ} (x : Spot) {vs : List ℕ} (ws : List Write) (a : Area) → length a ≡ size → Left size x vs ws → held (run a ws) x ≡ vs
 unfolding run
-run_left ws a x l (here {w = w} {ws = us} g) = g.shows (run a us) (run_length us a ∙ l)
-run_left ws a x l (◌▸◌ {w = w} {ws = us} m h) = m.leaves (run a us) ∙ run_left us a x l h
+run_left x ws a l (here {w = w} {ws = us} g) = g.shows (run a us) (run_length us a ∙ l)
+run_left x ws a l (◌▸◌ {w = w} {ws = us} m h) = m.leaves (run a us) ∙ run_left x us a l h

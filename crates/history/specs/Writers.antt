@@ -159,7 +159,7 @@ module _ {a b : Area} {ws : List Write} (R : Ran a ws b) where
   -- a spot that a write shows, as words, as a number, as a bit
   module _ {size : ℕ} (l : length a ≡ size) where
     pub shows_held : (x : Spot) {vs : List ℕ} → Left size x vs ws → held b x ≡ vs
-    shows_held x h = ap (λ c. held c x) R.made ∙ run_left ws a x l h
+    shows_held x h = ap (λ c. held c x) R.made ∙ run_left x ws a l h
 
     pub shows_val : (x : Spot) {vs : List ℕ} {v : ℕ} → Left size x vs ws → num vs ≡ v → val b x ≡ v
     shows_val x h e = ap num (shows_held x h) ∙ e

@@ -2,5 +2,5 @@ use Rattle.journal.proofs.Laws.{stored}
 use borrow.Author.Rules.{rules}
 use Rattle.journal.proofs.store.Goals as goal
 
-pub returns : goal.returns
-returns c = (search rules, search stored)
+pub returns-clause-back : goal.returns-clause-back
+returns-clause-back c = search stored

@@ -3,5 +3,8 @@ use Rattle.journal.specs.BackLaws.{back_two}
 use borrow.Author.Rules.{rules}
 use Rattle.journal.proofs.store_long.Goals as goal
 
-pub returns : goal.returns
-returns c = (search stored_long, search back_two)
+pub returns-clause-is : goal.returns-clause-is
+returns-clause-is c = search stored_long
+
+pub returns-clause-back : goal.returns-clause-back
+returns-clause-back c = search back_two

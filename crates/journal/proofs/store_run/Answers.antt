@@ -2,5 +2,5 @@ use Rattle.journal.proofs.Laws.{stored_run}
 use borrow.Author.Rules.{rules}
 use Rattle.journal.proofs.store_run.Goals as goal
 
-pub returns : goal.returns
-returns c = (search rules, search stored_run)
+pub returns-clause-back : goal.returns-clause-back
+returns-clause-back c = search stored_run

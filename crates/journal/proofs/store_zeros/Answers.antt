@@ -12,5 +12,8 @@ loop-i-init c = (search rules, search rules, search zeros_start)
 pub loop-i-preserved : goal.loop-i-preserved
 loop-i-preserved c = (search rules, search rules, search zeros_turn)
 
-pub returns : goal.returns
-returns c = (search zeros_end, search zeros_back)
+pub returns-clause-is : goal.returns-clause-is
+returns-clause-is c = search zeros_end
+
+pub returns-clause-back : goal.returns-clause-back
+returns-clause-back c = search zeros_back

@@ -5,5 +5,8 @@ use Rattle.journal.proofs.take_out.Goals as goal
 pub slice_bounds-copy-end : goal.slice_bounds-copy-end
 slice_bounds-copy-end c = search out_fits
 
-pub returns : goal.returns
-returns c = (search out_size, search out_is)
+pub returns-clause-size : goal.returns-clause-size
+returns-clause-size c = search out_size
+
+pub returns-clause-is : goal.returns-clause-is
+returns-clause-is c = search out_is

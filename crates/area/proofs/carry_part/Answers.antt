@@ -1,0 +1,6 @@
+use Rattle.area.proofs.Laws.{carry_is}
+use borrow.Author.Rules.{rules}
+use Rattle.area.proofs.carry_part.Goals as goal
+
+pub returns-clause-is : goal.returns-clause-is
+returns-clause-is c = search carry_is

@@ -1,0 +1,6 @@
+use Rattle.area.proofs.Laws.{freed_is}
+use borrow.Author.Rules.{rules}
+use Rattle.area.proofs.freed.Goals as goal
+
+pub returns : goal.returns
+returns c = search freed_is

@@ -1,0 +1,6 @@
+use Rattle.area.proofs.Laws.{live_is}
+use borrow.Author.Rules.{rules}
+use Rattle.area.proofs.live.Goals as goal
+
+pub returns : goal.returns
+returns c = search live_is

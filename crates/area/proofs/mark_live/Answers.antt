@@ -1,0 +1,6 @@
+use Rattle.area.proofs.Laws.{go_live_is}
+use borrow.Author.Rules.{rules}
+use Rattle.area.proofs.mark_live.Goals as goal
+
+pub returns-clause-is : goal.returns-clause-is
+returns-clause-is c = search go_live_is

@@ -1,0 +1,6 @@
+use Rattle.area.proofs.Laws.{go_unused_is}
+use borrow.Author.Rules.{rules}
+use Rattle.area.proofs.mark_unused.Goals as goal
+
+pub returns-clause-is : goal.returns-clause-is
+returns-clause-is c = search go_unused_is

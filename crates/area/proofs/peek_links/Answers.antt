@@ -1,0 +1,6 @@
+use Rattle.area.proofs.Laws.{links_are}
+use borrow.Author.Rules.{rules}
+use Rattle.area.proofs.peek_links.Goals as goal
+
+pub returns : goal.returns
+returns c = search links_are

@@ -1,0 +1,6 @@
+use Rattle.area.proofs.Laws.{mark_set}
+use borrow.Author.Rules.{rules}
+use Rattle.area.proofs.set_mark.Goals as goal
+
+pub returns-clause-is : goal.returns-clause-is
+returns-clause-is c = search mark_set

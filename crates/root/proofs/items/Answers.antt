@@ -1,0 +1,6 @@
+use borrow.Author.Rules.{rules}
+use Rattle.spec.specs.Root.{items}
+use Rattle.root.proofs.items.Goals as goal
+
+pub returns : goal.returns
+returns c = unfold items in cc

@@ -1,0 +1,6 @@
+use Rattle.session.proofs.Laws.{status_is}
+use borrow.Author.Rules.{rules}
+use Rattle.session.proofs.status_of.Goals as goal
+
+pub returns : goal.returns
+returns c = search status_is
