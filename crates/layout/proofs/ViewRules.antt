@@ -262,8 +262,8 @@ module _ (root : List ℕ) (plan : Plan) (g : Planned root plan) (s p : ℕ) (lo
 
 -- ---- the heads of a master
 pub push_is :
-    (caps : List ℕ) (n cap : ℕ) → n < 8 → length (map (λ (v : ℕ). v) caps) ≡ 8 → take (n + 1) (set caps n cap) ≡ take n caps ++ (cap ∷ [])
-push_is caps n cap h e = rw (add-one n) (take-suc-set caps n cap (rw (length_unmapped ℕ caps 8 e) h))
+    (caps : List ℕ) (n cap : ℕ) → n < 8 → length caps ≡ 8 → take (n + 1) (set caps n cap) ≡ take n caps ++ (cap ∷ [])
+push_is caps n cap h e = rw (add-one n) (take-suc-set caps n cap (omega arith))
 
 from_more :
     (root : List ℕ) (m s n k : ℕ) → n ≡ suc k →

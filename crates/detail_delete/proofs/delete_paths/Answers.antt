@@ -1,0 +1,31 @@
+use Prim.Native.Nat.{◌≤◌, ◌-◌, ◌*◌}
+use mathlib.Core.Path.{◌≡◌}
+use lib.ListN.{length}
+use borrow.Author.Rules.{rules}
+use Rattle.spec.specs.Root.{path_count as paths_of}
+use Rattle.journal.specs.Journal.{Back}
+use Rattle.journal.specs.BackLaws.{back_none}
+use Rattle.turns.specs.Turns.{few, path_within, back_next, back_all, paths_all}
+use Rattle.detail_delete.proofs.Laws.{From, Left, left_start, paths_next, paths_refused, paths_end}
+use Rattle.detail_delete.proofs.delete_paths.Goals as goal
+
+pub loop-i-init : goal.loop-i-init
+loop-i-init c = (search rules, search rules, search few, search rules, search rules, search back_none, search left_start)
+
+pub delete_at-w-requires-clause-le_s : goal.delete_at-w-requires-clause-le_s
+delete_at-w-requires-clause-le_s c = (search rules, search rules, search rules, search rules, search path_within, search rules)
+
+pub loop-i-preserved : goal.loop-i-preserved
+loop-i-preserved c = (search rules, search rules, search rules, search rules, search rules, search back_next, paths_next _ _ _ _ _ _ _ c.loop-i.invariant.6 (search rules) c.delete_at-w.result.ok _ c.delete_at-w.ensures.is c.if-w.true)
+
+pub returns-else-w-clause-is : goal.returns-else-w-clause-is
+returns-else-w-clause-is c = search paths_refused
+
+pub returns-else-w-clause-back : goal.returns-else-w-clause-back
+returns-else-w-clause-back c = search back_all
+
+pub returns-clause-is : goal.returns-clause-is
+returns-clause-is c = search paths_end
+
+pub returns-clause-back : goal.returns-clause-back
+returns-clause-back c = search paths_all

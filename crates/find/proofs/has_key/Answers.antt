@@ -1,0 +1,6 @@
+use Rattle.find.proofs.Laws.{same_key}
+use borrow.Author.Rules.{rules}
+use Rattle.find.proofs.has_key.Goals as goal
+
+pub returns : goal.returns
+returns c = search same_key

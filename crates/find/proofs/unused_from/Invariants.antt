@@ -1,0 +1,12 @@
+use Prim.Native.Nat.{◌≤◌}
+use mathlib.Core.Path.{◌≡◌}
+use Rattle.spec.specs.Master.{unused_from}
+use Rattle.find.proofs.Laws.{up_word, up_none, up_here, up_next}
+use borrow.Author.Rules.{rules}
+use Rattle.find.proofs.unused_from.Given as goal
+
+abbrev pub invariant-loop-left : goal.invariant-loop-left
+invariant-loop-left l = (1 ≤ l.at) × (unused_from l.s l.area l.n l.r ≡ unused_from l.s l.area l.left l.at)
+
+abbrev pub decreases-loop-left : goal.decreases-loop-left
+decreases-loop-left l = l.left

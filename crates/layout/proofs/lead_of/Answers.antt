@@ -1,0 +1,12 @@
+use borrow.Author.Rules.{rules}
+use Rattle.layout.proofs.Lengths.{plan_place, plan_lead, plan_lead_few}
+use Rattle.layout.proofs.lead_of.Goals as goal
+
+pub bounds-plan-k : goal.bounds-plan-k
+bounds-plan-k c = search plan_place
+
+pub returns-clause-value : goal.returns-clause-value
+returns-clause-value c = search plan_lead
+
+pub returns-clause-upper_bound : goal.returns-clause-upper_bound
+returns-clause-upper_bound c = search plan_lead_few

@@ -1,0 +1,6 @@
+use Rattle.master_calls.proofs.Laws.{told_is}
+use borrow.Author.Rules.{rules}
+use Rattle.master_calls.proofs.tell.Goals as goal
+
+pub returns : goal.returns
+returns c = search told_is

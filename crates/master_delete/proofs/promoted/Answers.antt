@@ -1,0 +1,6 @@
+use Rattle.master_delete.proofs.Laws.{promoted_is}
+use borrow.Author.Rules.{rules}
+use Rattle.master_delete.proofs.promoted.Goals as goal
+
+pub returns : goal.returns
+returns c = search promoted_is

@@ -1,0 +1,10 @@
+use Rattle.journal.specs.BackLaws.{back_none, back_two}
+use Rattle.placing.proofs.Laws.{neighbours_is}
+use borrow.Author.Rules.{rules}
+use Rattle.placing.proofs.neighbours.Goals as goal
+
+pub returns-clause-is : goal.returns-clause-is
+returns-clause-is c = search neighbours_is
+
+pub returns-clause-back : goal.returns-clause-back
+returns-clause-back c = search back_two

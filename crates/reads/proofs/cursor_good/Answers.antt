@@ -1,0 +1,6 @@
+use Rattle.reads.proofs.GetLaws.{fits_so}
+use borrow.Author.Rules.{rules}
+use Rattle.reads.proofs.cursor_good.Goals as goal
+
+pub returns : goal.returns
+returns c = search fits_so

@@ -1,9 +1,0 @@
-use Rattle.reads.proofs.GetLaws.{in_master}
-use borrow.Author.Rules.{rules}
-use Rattle.reads.proofs.get_in_master.Statement.{statement}
-use Rattle.reads.proofs.get_in_master.Tie as tie
-
-pub get_in_master_spec : {M : Type 1} → statement M
-get_in_master_spec =
-    tie.close
-    (tie.spec (λ c κs. search rules) (λ c κs. search rules) (λ c. (search rules, search in_master)))

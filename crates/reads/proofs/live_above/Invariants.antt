@@ -1,0 +1,12 @@
+use borrow.Author.Rules.{rules}
+use Prim.Native.Nat.{◌-◌}
+use mathlib.Core.Path.{◌≡◌, refl}
+use Rattle.spec.specs.Cursor.{live_above}
+use Rattle.reads.proofs.Laws.{above_word, above_found, above_pass, above_end}
+use Rattle.reads.proofs.live_above.Given as goal
+
+abbrev pub invariant-loop-r : goal.invariant-loop-r
+invariant-loop-r l = live_above l.s l.area (l.s.cap - l.from) l.from ≡ live_above l.s l.area (l.s.cap - l.r) l.r
+
+abbrev pub decreases-loop-r : goal.decreases-loop-r
+decreases-loop-r l = l.s.cap - l.r

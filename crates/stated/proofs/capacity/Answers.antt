@@ -1,0 +1,6 @@
+use borrow.Author.Rules.{rules}
+use Rattle.spec.specs.Root.{capacity}
+use Rattle.stated.proofs.capacity.Goals as goal
+
+pub returns : goal.returns
+returns c = unfold capacity in cc

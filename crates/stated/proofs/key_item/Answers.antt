@@ -1,0 +1,6 @@
+use borrow.Author.Rules.{rules}
+use Rattle.spec.specs.Root.{key_item}
+use Rattle.stated.proofs.key_item.Goals as goal
+
+pub returns : goal.returns
+returns c = unfold key_item in cc

@@ -1,0 +1,6 @@
+use borrow.Author.Rules.{rules}
+use Rattle.spec.specs.Root.{kind}
+use Rattle.stated.proofs.kind.Goals as goal
+
+pub returns : goal.returns
+returns c = unfold kind in cc

@@ -1,0 +1,6 @@
+use borrow.Author.Rules.{rules}
+use Rattle.spec.specs.Root.{path_count}
+use Rattle.stated.proofs.path_count.Goals as goal
+
+pub returns : goal.returns
+returns c = unfold path_count in cc

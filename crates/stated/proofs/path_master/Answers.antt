@@ -1,0 +1,6 @@
+use borrow.Author.Rules.{rules}
+use Rattle.spec.specs.Root.{path_master}
+use Rattle.stated.proofs.path_master.Goals as goal
+
+pub returns : goal.returns
+returns c = unfold path_master in cc

@@ -1,0 +1,6 @@
+use borrow.Author.Rules.{rules}
+use Rattle.spec.specs.Root.{path_sort}
+use Rattle.stated.proofs.path_sort.Goals as goal
+
+pub returns : goal.returns
+returns c = unfold path_sort in cc
