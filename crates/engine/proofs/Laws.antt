@@ -98,19 +98,19 @@ module _ (root : List ℕ) (a : Area) (cs : List Cursor) (s mode r : ℕ) (key b
     (e : got_out o sh a ≡ get_steps root a cs s mode r key (length buffer)) where
   got_status : (answer a cs s buffer (got_out o sh a)).status ≡ status_out o
   unfolding answer
-  got_status = elim o [ Done g ↦ refl | Refused why ↦ refl ]
+  got_status = elim o as (λ k. (answer a cs s buffer (got_out k sh a)).status ≡ status_out k) [ Done g ↦ refl | Refused why ↦ refl ]
 
   got_cursors : (answer a cs s buffer (got_out o sh a)).cursors ≡ cursors_out o cs s
   unfolding answer
-  got_cursors = elim o [ Done g ↦ refl | Refused why ↦ refl ]
+  got_cursors = elim o as (λ k. (answer a cs s buffer (got_out k sh a)).cursors ≡ cursors_out k cs s) [ Done g ↦ refl | Refused why ↦ refl ]
 
   got_passed : (answer a cs s buffer (got_out o sh a)).passed ≡ passed_out o none_passed
   unfolding answer
-  got_passed = elim o [ Done g ↦ refl | Refused why ↦ refl ]
+  got_passed = elim o as (λ k. (answer a cs s buffer (got_out k sh a)).passed ≡ passed_out k none_passed) [ Done g ↦ refl | Refused why ↦ refl ]
 
   got_words : (answer a cs s buffer (got_out o sh a)).buffer ≡ buffer_out o sh a buffer
   unfolding answer
-  got_words = elim o [ Done g ↦ refl | Refused why ↦ refl ]
+  got_words = elim o as (λ k. (answer a cs s buffer (got_out k sh a)).buffer ≡ buffer_out k sh a buffer) [ Done g ↦ refl | Refused why ↦ refl ]
 
   pub get_status : (w : List ℕ) → w ≡ status_out o → w ≡ (get root a cs s mode r key buffer).status
   unfolding get

@@ -1,0 +1,6 @@
+use Rattle.changes.proofs.Laws.{update_here}
+use borrow.Author.Rules.{rules}
+use Rattle.changes.proofs.update_in_master.Goals as goal
+
+pub returns-clause-is : goal.returns-clause-is
+returns-clause-is c = search update_here

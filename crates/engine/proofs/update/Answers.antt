@@ -1,0 +1,16 @@
+use Rattle.spec.specs.Calls.{update}
+use Rattle.engine.proofs.Laws.{told_status, told_cursors, told_passed, told_area}
+use borrow.Author.Rules.{rules}
+use Rattle.engine.proofs.update.Goals as goal
+
+pub returns-clause-status : goal.returns-clause-status
+returns-clause-status c = unfold update in search told_status
+
+pub returns-clause-cursors : goal.returns-clause-cursors
+returns-clause-cursors c = unfold update in search told_cursors
+
+pub returns-clause-passed : goal.returns-clause-passed
+returns-clause-passed c = unfold update in search told_passed
+
+pub returns-clause-area : goal.returns-clause-area
+returns-clause-area c = unfold update in search told_area

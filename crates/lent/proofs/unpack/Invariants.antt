@@ -1,0 +1,15 @@
+use Prim.Native.Nat.{◌≤◌, ◌-◌, ◌*◌}
+use mathlib.Core.Path.{◌≡◌}
+use native.Mathlib.Omega.{arith}
+use lib.ListN.{length, length-set, drop}
+use lib.Seq.{sets}
+use Rattle.lent.specs.Lent.{characters, unpacked}
+use Rattle.lent.proofs.Laws.{unpack_start, unpack_turn, unpack_end}
+use borrow.Author.Rules.{rules}
+use Rattle.lent.proofs.unpack.Given as goal
+
+abbrev pub invariant-loop-i : goal.invariant-loop-i
+invariant-loop-i l = (l.i ≤ length l.words) × (length l.text ≡ length l.initial.text) × (sets l.text (2 * l.i) (characters (drop l.i l.words)) ≡ unpacked l.words l.initial.text)
+
+abbrev pub decreases-loop-i : goal.decreases-loop-i
+decreases-loop-i l = length l.words - l.i

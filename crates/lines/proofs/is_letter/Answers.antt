@@ -1,0 +1,6 @@
+use borrow.Author.Rules.{rules}
+use Rattle.lines.proofs.Laws.{letters_alike}
+use Rattle.lines.proofs.is_letter.Goals as goal
+
+pub returns : goal.returns
+returns c = search letters_alike

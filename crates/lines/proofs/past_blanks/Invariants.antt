@@ -1,0 +1,13 @@
+use Prim.Native.Nat.{◌≤◌, ◌+◌, ◌-◌}
+use mathlib.Core.Path.{◌≡◌}
+use lib.ListN.{length, drop}
+use borrow.Author.Rules.{rules}
+use Rattle.lines.specs.Lines.{blank, first}
+use Rattle.lines.proofs.Laws.{first_turn, first_stop, first_end, is_blank, no_blank}
+use Rattle.lines.proofs.past_blanks.Given as goal
+
+abbrev pub invariant-loop-i : goal.invariant-loop-i
+invariant-loop-i l = (l.from ≤ l.i) × (l.i ≤ length l.line) × (l.from + first blank (drop l.from l.line) ≡ l.i + first blank (drop l.i l.line))
+
+abbrev pub decreases-loop-i : goal.decreases-loop-i
+decreases-loop-i l = length l.line - l.i

@@ -1,0 +1,39 @@
+use Rattle.maltorhu.proofs.Laws.{both_right, status_wrong, cursors_wrong, delete_code, delete_area, delete_cursors, delete_status, no_delete_code, no_delete_area, no_delete_cursors, no_delete_status}
+use borrow.Author.Rules.{rules}
+use Rattle.maltorhu.proofs.dbdelete.Goals as goal
+
+pub returns-then-status-eq10-clause-code : goal.returns-then-status-eq10-clause-code
+returns-then-status-eq10-clause-code c = search (delete_code, both_right)
+
+pub returns-then-status-eq10-clause-area : goal.returns-then-status-eq10-clause-area
+returns-then-status-eq10-clause-area c = search (delete_area, both_right)
+
+pub returns-then-status-eq10-clause-cursors : goal.returns-then-status-eq10-clause-cursors
+returns-then-status-eq10-clause-cursors c = search (delete_cursors, both_right)
+
+pub returns-then-status-eq10-clause-status : goal.returns-then-status-eq10-clause-status
+returns-then-status-eq10-clause-status c = search (delete_status, both_right)
+
+pub returns-else-status-eq10-clause-code : goal.returns-else-status-eq10-clause-code
+returns-else-status-eq10-clause-code c = search (no_delete_code, status_wrong)
+
+pub returns-else-status-eq10-clause-area : goal.returns-else-status-eq10-clause-area
+returns-else-status-eq10-clause-area c = search (no_delete_area, status_wrong)
+
+pub returns-else-status-eq10-clause-cursors : goal.returns-else-status-eq10-clause-cursors
+returns-else-status-eq10-clause-cursors c = search (no_delete_cursors, status_wrong)
+
+pub returns-else-status-eq10-clause-status : goal.returns-else-status-eq10-clause-status
+returns-else-status-eq10-clause-status c = search (no_delete_status, status_wrong)
+
+pub returns-else-cursors-eq64-clause-code : goal.returns-else-cursors-eq64-clause-code
+returns-else-cursors-eq64-clause-code c = search (no_delete_code, cursors_wrong)
+
+pub returns-else-cursors-eq64-clause-area : goal.returns-else-cursors-eq64-clause-area
+returns-else-cursors-eq64-clause-area c = search (no_delete_area, cursors_wrong)
+
+pub returns-else-cursors-eq64-clause-cursors : goal.returns-else-cursors-eq64-clause-cursors
+returns-else-cursors-eq64-clause-cursors c = search (no_delete_cursors, cursors_wrong)
+
+pub returns-else-cursors-eq64-clause-status : goal.returns-else-cursors-eq64-clause-status
+returns-else-cursors-eq64-clause-status c = search (no_delete_status, cursors_wrong)
