@@ -70,11 +70,11 @@ Reading a d = d.area ≡ a
 module _ (a : Area) (cs : List Cursor) (s : ℕ) (buffer : List ℕ) (x : Outcome Done) where
   area_stays : All (Reading a) x → (answer a cs s buffer x).area ≡ a
   unfolding answer
-  area_stays = elim x [ accept d ↦ λ h. h | refuse why ↦ λ h. refl ]
+  area_stays = elim x as (λ k. All (Reading a) k → (answer a cs s buffer k).area ≡ a) [ accept d ↦ λ h. h | refuse why ↦ λ h. refl ]
 
   no_buffer : All Wordless x → (answer a cs s [] x).buffer ≡ []
   unfolding answer
-  no_buffer = elim x [ accept d ↦ λ h. ap (lay [] 0) h | refuse why ↦ λ h. refl ]
+  no_buffer = elim x as (λ k. All Wordless k → (answer a cs s [] k).buffer ≡ []) [ accept d ↦ λ h. ap (lay [] 0) h | refuse why ↦ λ h. refl ]
 
 module _ (root : List ℕ) (a : Area) (cs : List Cursor) (s : ℕ) where
   find_plain : (item : ℕ) (key : List ℕ) → All (λ d. Reading a d × Wordless d) (find_steps root a cs s item key)
