@@ -22,32 +22,28 @@ ROWS = 40  # calls in one theorem: a declaration may take 50 million steps
 
 REPLAY = """-- Calls one after another, each with the answer that it must get.
 -- Assumes nothing.
-use Prim.Native.Nat.{ℕ, zero, suc, _+_, _-_, _*_, _/_, _%_}
-use mathlib.Core.Bool.{Bool, true, false, _&&_}
-use mathlib.Core.List.{List, [], _∷_, _++_}
-use lib.Bits.{bitXor}
-use lib.ListN.{length, set, replicate}
-use lib.Dec.{eqb}
-use Rattle·spec.specs.declared.Cursor.{Cursor}
-use Rattle·spec.specs.Words.{same}
-use Rattle·spec.specs.Detail.{none-passed}
-use Rattle·spec.specs.Cursor.{fresh}
-use Rattle·spec.specs.Calls.{Answer, Made, make, find, get, put, update, delete}
+use Rattle.std.specs.Prelude.{ℕ, zero, suc, ◌+◌, ◌-◌, ◌*◌, ◌/◌, ◌%◌, Bool, true, false, ◌&&◌, List, [], ◌∷◌, ◌++◌, length, set, replicate, eqb}
+use Rattle.std.specs.Int.Bits.{bit_xor}
+use Rattle.spec.specs.declared.Cursor.{Cursor}
+use Rattle.spec.specs.Words.{same}
+use Rattle.spec.specs.Detail.{none_passed}
+use Rattle.spec.specs.Cursor.{fresh}
+use Rattle.spec.specs.Calls.{Answer, Made, make, find, get, put, update, delete}
 
 -- FNV-1a over the four bytes of each number, least first
 unfoldable pub byte : ℕ → ℕ → ℕ
-byte h b = (h / 256 * 256 + bitXor (h % 256) b) * 1099511628211 % 18446744073709551616
+byte h b = (h / 256 * 256 + bit_xor (h % 256) b) * 1099511628211 % 18446744073709551616
 
-unfoldable pub hash-on : ℕ → List ℕ → ℕ
-hash-on h [] = h
-hash-on h (n ∷ ns) = hash-on (byte (byte (byte (byte h (n % 256)) (n / 256 % 256)) (n / 65536 % 256)) (n / 16777216)) ns
+unfoldable pub hash_on : ℕ → List ℕ → ℕ
+hash_on h [] = h
+hash_on h (n ∷ ns) = hash_on (byte (byte (byte (byte h (n % 256)) (n / 256 % 256)) (n / 65536 % 256)) (n / 16777216)) ns
 
 abbrev pub hash : List ℕ → ℕ
-hash ns = hash-on 14695981039346656037 ns
+hash ns = hash_on 14695981039346656037 ns
 
 unfoldable pub flat : List Cursor → List ℕ
 flat [] = []
-flat (c ∷ cs) = c .current ∷ c .path ∷ c .back ∷ c .fore ∷ flat cs
+flat (c ∷ cs) = c.current ∷ c.path ∷ c.back ∷ c.fore ∷ flat cs
 
 pub record State : Type 0 where
   pub root : List ℕ
@@ -58,7 +54,7 @@ pub record State : Type 0 where
 pub data Ask : Type 0 where
   poked : ℕ → ℕ → Ask
   cursored : ℕ → ℕ → ℕ → ℕ → ℕ → Ask
-  made-new : List ℕ → Ask
+  made_new : List ℕ → Ask
   found : ℕ → ℕ → List ℕ → List ℕ → Ask
   got : ℕ → ℕ → ℕ → List ℕ → List ℕ → Ask
   wrote updated : ℕ → List ℕ → List ℕ → Ask
@@ -66,70 +62,66 @@ pub data Ask : Type 0 where
 
 -- status, passed, and the three hashes
 unfoldable pub told : Answer → List ℕ → List ℕ
-told w buffer = w .status ++ (w .passed ++ (hash (flat (w .cursors)) ∷ hash (w .area) ∷ hash buffer ∷ []))
+told w buffer = w.status ++ (w.passed ++ (hash (flat w.cursors) ∷ hash w.area ∷ hash buffer ∷ []))
 
 unfoldable pub left : List ℕ → List ℕ → Answer → State
-left root buffer w = record { root = root; area = w .area; cursors = w .cursors; buffer = buffer }
+left root buffer w = record { root = root; area = w.area; cursors = w.cursors; buffer = buffer }
 
 pub record Step : Type 0 where
   pub good : Bool
   pub next : State
 
 unfoldable pub answered : State → Answer → List ℕ → List ℕ → Step
-answered t w buffer want = record { good = same (told w buffer) want; next = left (t .root) buffer w }
+answered t w buffer want = record { good = same (told w buffer) want; next = left t.root buffer w }
 
 unfoldable pub step : State → Ask → Step
-step t (poked i w) = record { good = true; next = record { root = t .root; area = set (t .area) i w; cursors = t .cursors; buffer = t .buffer } }
+step t (poked i w) = record { good = true; next = record { root = t.root; area = set t.area i w; cursors = t.cursors; buffer = t.buffer } }
 step t (cursored s r p b f) =
     record {
       good = true;
-      next = record { root = t .root; area = t .area; cursors = set (t .cursors) (s - 1) (record { current = r; path = p; back = b; fore = f }); buffer = t .buffer };
+      next = record { root = t.root; area = t.area; cursors = set t.cursors (s - 1) (record { current = r; path = p; back = b; fore = f }); buffer = t.buffer };
     }
-step t (made-new want) =
-    let m : Made = make (t .root) (t .area) in
-    let w : Answer = record { status = m .status; cursors = t .cursors; passed = none-passed; area = m .area; buffer = [] } in
-    answered t w (t .buffer) want
-step t (found s i key want) = answered t (find (t .root) (t .area) (t .cursors) s i key) (t .buffer) want
+step t (made_new want) =
+    let m : Made = make t.root t.area in
+    let w : Answer = record { status = m.status; cursors = t.cursors; passed = none_passed; area = m.area; buffer = [] } in
+    answered t w t.buffer want
+step t (found s i key want) = answered t (find t.root t.area t.cursors s i key) t.buffer want
 step t (got s mode r key want) =
-    let w : Answer = get (t .root) (t .area) (t .cursors) s mode r key (t .buffer) in
-    answered t w (w .buffer) want
-step t (wrote s entry want) = answered t (put (t .root) (t .area) (t .cursors) s entry) (t .buffer) want
-step t (updated s entry want) = answered t (update (t .root) (t .area) (t .cursors) s entry) (t .buffer) want
-step t (deleted s want) = answered t (delete (t .root) (t .area) (t .cursors) s) (t .buffer) want
+    let w : Answer = get t.root t.area t.cursors s mode r key t.buffer in
+    answered t w w.buffer want
+step t (wrote s entry want) = answered t (put t.root t.area t.cursors s entry) t.buffer want
+step t (updated s entry want) = answered t (update t.root t.area t.cursors s entry) t.buffer want
+step t (deleted s want) = answered t (delete t.root t.area t.cursors s) t.buffer want
 
 unfoldable pub run : State → List Ask → State
 run t [] = t
-run t (q ∷ qs) = run (step t q .next) qs
+run t (q ∷ qs) = run ((step t q).next) qs
 
 unfoldable pub right : State → List Ask → Bool
 right t [] = true
-right t (q ∷ qs) = let s : Step = step t q in elim (s .good) [ true ↦ right (s .next) qs | false ↦ false ]
+right t (q ∷ qs) = let s : Step = step t q in elim s.good [ true ↦ right s.next qs | false ↦ false ]
 
-unfoldable pub open-replay : Unit {0}
-unfolding byte hash-on flat told left answered step run right
-open-replay = tt
+unfoldable pub open_replay : Unit {0}
+unfolding byte hash_on flat told left answered step run right
+open_replay = tt
 """
 
 HEAD = """-- Made by tests/definitions.py.
-use Prim.Native.Nat.{ℕ}
-use mathlib.Core.Path.{_≡_, refl}
-use mathlib.Core.Bool.{Bool, true}
-use mathlib.Core.List.{List, [], _∷_}
-use lib.ListN.{replicate}
-use Rattle·spec.specs.declared.Cursor.{Cursor}
-use Rattle·spec.specs.Outcome.{open-outcome}
-use Rattle·spec.specs.Words.{open-words}
-use Rattle·spec.specs.Root.{open-root}
-use Rattle·spec.specs.Layout.{open-layout}
-use Rattle·spec.specs.Area.{open-area}
-use Rattle·spec.specs.Master.{open-master}
-use Rattle·spec.specs.Detail.{open-detail}
-use Rattle·spec.specs.Cursor.{open-cursor, fresh}
-use Rattle·spec.specs.Calls.{open-calls}
-use Rattle·replay·specs.specs.Replay.{State, Ask, poked, cursored, made-new, found, got, wrote, updated, deleted, run, right, open-replay}
+use Rattle.std.specs.Prelude.{ℕ, ◌≡◌, refl, Bool, true, List, [], ◌∷◌, replicate}
+use Rattle.spec.specs.declared.Cursor.{Cursor}
+use Rattle.spec.specs.Outcome.{open_outcome}
+use Rattle.spec.specs.Words.{open_words}
+use Rattle.spec.specs.Root.{open_root}
+use Rattle.spec.specs.Layout.{open_layout}
+use Rattle.spec.specs.Area.{open_area}
+use Rattle.spec.specs.Master.{open_master}
+use Rattle.spec.specs.Detail.{open_detail}
+use Rattle.spec.specs.Cursor.{open_cursor, fresh}
+use Rattle.spec.specs.Calls.{open_calls}
+use Rattle.replay.specs.Replay.{State, Ask, poked, cursored, made_new, found, got, wrote, updated, deleted, run, right, open_replay}
 
 """
-OPEN = "unfolding open-outcome open-words open-root open-layout open-area open-master open-detail open-cursor open-calls open-replay"
+OPEN = "unfolding open_outcome open_words open_root open_layout open_area open_master open_detail open_cursor open_calls open_replay"
 
 
 def words(ws):
@@ -186,7 +178,7 @@ def histories(n):
             w = want(next(out))
             s = args[0] if args else ""
             row = {
-                "new": lambda: f"made-new {w}",
+                "new": lambda: f"made_new {w}",
                 "find": lambda: f"found {s} {args[1]} {words(args[2:])} {w}",
                 "get": lambda: f"got {s} {args[1]} {args[2]} {words(args[3:])} {w}",
                 "put": lambda: f"wrote {s} {words(args[1:])} {w}",
@@ -228,7 +220,7 @@ def main():
     os.makedirs(os.path.join(WORK, "crates", "replay", "src"))
     specs = os.path.join(WORK, "crates", "replay", "specs")
     os.makedirs(specs)
-    shutil.copytree(os.path.join(TOP, "crates", "spec"), os.path.join(WORK, "crates", "spec"), ignore=shutil.ignore_patterns("must-fail"))
+    shutil.copytree(os.path.join(TOP, "crates", "spec"), os.path.join(WORK, "crates", "spec"), ignore=shutil.ignore_patterns("must-fail", "out"))
     subprocess.run(["git", "init", "-q", WORK], check=True)
     open(os.path.join(WORK, "crates.txt"), "w").write("spec:\nreplay: spec\n")
     open(os.path.join(WORK, "crates", "replay", "src", "lib.rt"), "w").write("// No function: the rows are in specs/.\n")
@@ -239,7 +231,7 @@ def main():
         open(os.path.join(specs, f"History{k}.antt"), "w").write(module(k, h))
     calls = sum(1 for h in hs for _, r in h.rows if not r.startswith(("poked", "cursored")))
     start = time.time()
-    got = subprocess.run(["rt", "prove"], cwd=WORK, capture_output=True, text=True, env={**os.environ, "RT_CUT": "0"})
+    got = subprocess.run(["rt", "check"], cwd=os.path.join(WORK, "crates", "replay"), capture_output=True, text=True)
     seconds = time.time() - start
     text = got.stdout + got.stderr
     open(os.path.join(WORK, "out"), "w").write(text)

@@ -5,7 +5,7 @@ and `second cases` must then differ from what was worked out by hand.
     tests/wrong-models.py            every change below
     tests/wrong-models.py NAME..     only these
 
-Needs rustc and target/staticlib/libmaltorhu.a (`rt staticlib maltorhu`); writes under target/wrong-models alone. Prints for each
+Needs rustc and target/staticlib/libmaltorhu.a (`tools/library`); writes under target/wrong-models alone. Prints for each
 change the first line that differs. Exit 0: all were caught; 1: one was missed, or its place is no longer in the model; 2: a name
 that is not in the list, or something that is needed is missing, and nothing was done.
 """

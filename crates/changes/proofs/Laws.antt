@@ -12,10 +12,10 @@ use Rattle.spec.specs.declared.Refusal.TheVariants.{BadCursor}
 use Rattle.spec.specs.declared.Cursor.{Cursor}
 use Rattle.spec.specs.declared.Master.{Master}
 use Rattle.spec.specs.Outcome.{Outcome as OutcomeOf, accept, refuse, require, ◌>>=◌}
-use Rattle.spec.specs.Root.{sets, kind, capacity, path_count}
-use Rattle.spec.specs.Layout.{View, a_master, a_detail, master_of, heads_of, shape_of, detail_of, view_shape}
+use Rattle.spec.specs.Root.{kind, capacity}
+use Rattle.spec.specs.Layout.{a_master, a_detail, master_of, heads_of, shape_of, detail_of, view_shape}
 use Rattle.spec.specs.Cursor.{fresh, cursor_good, paths_in, seen}
-use Rattle.spec.specs.Calls.{Done as DoneBy, named_set, named_cursor, open_to_change, put_in, put_on, put_steps, keeps_all, update_on, update_steps, delete_on, delete_steps}
+use Rattle.spec.specs.Calls.{Done as DoneBy, named_cursor, open_to_change, put_in, put_on, put_steps, keeps_all, update_on, update_steps, delete_on, delete_steps}
 use Rattle.spec.specs.Follow.{goes}
 use Rattle.area.specs.AreaLaws.{Then, then_bind, then_told}
 use Rattle.root.specs.declared.Plan.{Plan}

@@ -10,7 +10,6 @@ use mathlib.Core.List.{List, [], ◌∷◌, ◌++◌}
 use native.Mathlib.Omega.{arith}
 use borrow.Author.Tests.{eqb-true}
 use Rattle.std.proofs.Math.ListN.{replicate}
-use Rattle.spec.specs.declared.Refusal.{Refusal}
 use Rattle.spec.specs.declared.Refusal.TheVariants.{BadRoot, BadLength, NotByCall, NoMode, NotSearched, WrongLength, NoPath, ShortBuffer, NoRecord, KeyChanged}
 use Rattle.spec.specs.declared.Cursor.{Cursor}
 use Rattle.spec.specs.Words.{word, lay}

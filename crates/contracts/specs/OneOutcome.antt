@@ -1,8 +1,8 @@
 -- The contracts of the six calls, and that each leaves one outcome: two outcomes that satisfy it are equal. An outcome is all that
 -- a call can write or answer: a find and a get are lent the area to be read, only a get is lent a buffer to be written.
 -- Assumes nothing.
-use Rattle.std.specs.Prelude.{ℕ, ◌≡◌, refl, List}
-use Rattle.std.proofs.Common.{sym, ◌∙◌, ap}
+use Rattle.std.specs.Prelude.{ℕ, ◌≡◌, List}
+use Rattle.std.proofs.Common.{sym, ◌∙◌}
 use Rattle.spec.specs.declared.Cursor.{Cursor}
 use Rattle.spec.specs.Area.{Area}
 use Rattle.spec.specs.Calls.{Made, make, Answer, find, get, put, update, delete}

@@ -1,27 +1,27 @@
 -- Laws of the changing calls on a detail: each refusal in its order, and what is told at the end. Assumes nothing.
 use Prim.Native.Nat.{ℕ, zero, suc, ◌+◌, ◌-◌, ◌*◌, ◌≤◌, ◌<◌}
 use mathlib.Core.Path.{◌≡◌, refl, sym, ◌∙◌, ap, subst}
-use mathlib.Core.Bool.{Bool, true, false, not, ◌&&◌}
+use mathlib.Core.Bool.{Bool, true, false, ◌&&◌}
 use mathlib.Core.List.{List, []}
 use native.Mathlib.Omega.{arith}
 use native.Mathlib.Numerals.{add-one}
 use borrow.Author.Tests.{ltb-true, eq-eqb, ne_eqb}
 use lib.Dec.{eqb, ltb}
-use lib.ListN.{length, take, drop}
+use lib.ListN.{length}
 use Rattle.spec.specs.declared.Refusal.{Refusal}
 use Rattle.spec.specs.declared.Refusal.TheVariants.{WrongLength, KeyChanged, NoRecord, Broken}
 use Rattle.spec.specs.declared.Cursor.{Cursor}
 use Rattle.spec.specs.declared.Field.{Field}
 use Rattle.spec.specs.declared.Links.{Links}
 use Rattle.spec.specs.declared.Shape.{Shape}
-use Rattle.spec.specs.Outcome.{Outcome, accept, refuse, require, ◌>>=◌}
+use Rattle.spec.specs.Outcome.{Outcome, refuse, require}
 use Rattle.spec.specs.Words.{same}
 use Rattle.spec.specs.Root.{root_good, sets, path_count, path_search, path_sort, has_item}
-use Rattle.spec.specs.Layout.{Detail, a_detail, view_shape, shape_of, path_of, sort_of, field_of, no_field, detail_of}
-use Rattle.spec.specs.Area.{Area, live, value_at, peek_part, peek_links, put_entry_at}
-use Rattle.spec.specs.Detail.{Line, none_passed, put_line, delete_line}
+use Rattle.spec.specs.Layout.{Detail, a_detail, view_shape, shape_of, path_of, sort_of, field_of, detail_of}
+use Rattle.spec.specs.Area.{live, value_at, peek_part, peek_links, put_entry_at}
+use Rattle.spec.specs.Detail.{none_passed, put_line, delete_line}
 use Rattle.spec.specs.Cursor.{no_links, at_record, saved_links, seen, current_record}
-use Rattle.spec.specs.Calls.{Done as DoneBy, status_words, open_to_change, put_in, put_on, keeps, keeps_paths, keeps_all, update_on, delete_in, delete_on}
+use Rattle.spec.specs.Calls.{Done as DoneBy, open_to_change, put_in, put_on, keeps, keeps_paths, keeps_all, update_on, delete_in, delete_on}
 use Rattle.spec.specs.Follow.{goes, stops, taken, other, passes, fails}
 use Rattle.root.specs.Good.{path_of_set, sort_listed}
 use Rattle.area.specs.AreaLaws.{Then, then_bind, then_told}
@@ -30,7 +30,7 @@ use Rattle.master_put.specs.declared.Entered.{Entered}
 use Rattle.master_put.specs.declared.Entered.TheVariants.{At, Refused as EntryRefused}
 use Rattle.detail_put.specs.Answers.{line_out}
 use Rattle.detail_put.specs.LineLaws.{line_done, line_refused}
-use Rattle.master_put.specs.Answers.{area_out, Unwritten}
+use Rattle.master_put.specs.Answers.{area_out}
 use Rattle.master_put.specs.PutLaws.{area_done, area_refused}
 use Rattle.named.specs.declared.Found.{Found}
 use Rattle.named.specs.declared.Found.TheVariants.{At as Found_at, Refused as Unfound}

@@ -4,7 +4,7 @@ use Rattle.std.specs.Prelude.{ℕ, Bool, List, []}
 use Rattle.spec.specs.declared.Refusal.TheVariants.{KeyChanged}
 use Rattle.spec.specs.declared.Cursor.{Cursor}
 use Rattle.spec.specs.declared.Shape.{Shape}
-use Rattle.spec.specs.Outcome.{Outcome as OutcomeOf, accept, refuse, require, ◌>>=◌}
+use Rattle.spec.specs.Outcome.{Outcome as OutcomeOf, require, ◌>>=◌}
 use Rattle.spec.specs.Layout.{Detail, path_of}
 use Rattle.spec.specs.Area.{Area, put_entry_at}
 use Rattle.spec.specs.Detail.{none_passed, delete_line}

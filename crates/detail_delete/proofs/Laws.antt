@@ -12,7 +12,7 @@ use Rattle.spec.specs.declared.Master.{Master}
 use Rattle.spec.specs.declared.Path.{Path}
 use Rattle.spec.specs.declared.Hung.{Hung}
 use Rattle.spec.specs.Outcome.{Outcome, accept, refuse, ◌>>=◌}
-use Rattle.spec.specs.Root.{sets, path_count, path_master}
+use Rattle.spec.specs.Root.{path_count, path_master}
 use Rattle.spec.specs.Layout.{shape_of, heads_of, detail_of}
 use Rattle.spec.specs.Area.{Area, poke, blank, value_at, freed, read, set_freed, set_next_freed, go_unused}
 use Rattle.spec.specs.Master.{find_key}

@@ -1,5 +1,5 @@
 -- Laws of a line's put: one path's turn by its number, the paths in turn with the way back, and the record itself. Assumes nothing.
-use Prim.Native.Nat.{ℕ, suc, ◌+◌, ◌-◌, ◌*◌, ◌≤◌, ◌<◌}
+use Prim.Native.Nat.{ℕ, suc, ◌+◌, ◌-◌, ◌≤◌, ◌<◌}
 use mathlib.Core.Path.{◌≡◌, refl, sym, ◌∙◌, ap}
 use mathlib.Core.Bool.{Bool, true, false}
 use mathlib.Core.List.{List}
@@ -10,7 +10,7 @@ use Rattle.spec.specs.declared.Shape.{Shape}
 use Rattle.spec.specs.declared.Taken.{Taken}
 use Rattle.spec.specs.declared.Path.{Path}
 use Rattle.spec.specs.Outcome.{Outcome, accept, refuse, ◌>>=◌}
-use Rattle.spec.specs.Root.{sets, path_count}
+use Rattle.spec.specs.Root.{path_count}
 use Rattle.spec.specs.Layout.{shape_of, detail_of}
 use Rattle.spec.specs.Area.{set_mark, set_freed, put_entry_at, go_live}
 use Rattle.spec.specs.Detail.{take_record, Placed, put_path, Lined, put_paths, none_passed, settle, Line, put_taken, put_line}

@@ -1,7 +1,6 @@
 -- A base, the calls on it, and the invariant that every call keeps: T-08's rules over the lines of each path, with what is needed of the cursors. What a call
 -- does to the lines of a set is read off its answer.
-use Rattle.std.specs.Prelude.{◌≡◌, ◌≢◌, ◌⊎◌, List, [], ◌∷◌, ◌++◌, Bool, true, false, ◌&&◌, ℕ, zero, suc, ◌+◌, ◌-◌, ◌*◌, ◌≤◌, ◌<◌, length, get_or, replicate, eqb}
-use Rattle.spec.specs.declared.Shape.{Shape}
+use Rattle.std.specs.Prelude.{◌≡◌, ◌≢◌, ◌⊎◌, List, [], ◌∷◌, Bool, true, false, ◌&&◌, ℕ, ◌+◌, ◌-◌, ◌*◌, ◌≤◌, ◌<◌, length, get_or, replicate, eqb}
 use Rattle.spec.specs.declared.Cursor.{Cursor}
 use Rattle.spec.specs.declared.Path.{Path}
 use Rattle.spec.specs.declared.Refusal.{Refusal}

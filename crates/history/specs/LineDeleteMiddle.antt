@@ -10,7 +10,7 @@ use borrow.Author.Tests.{eq-eqb, ne_eqb, eqb-true, lt-ltb, le-ltb}
 use Rattle.spec.specs.declared.Shape.{Shape}
 use Rattle.spec.specs.declared.Path.{Path}
 use Rattle.spec.specs.Words.{same}
-use Rattle.spec.specs.Root.{sets, kind, path_master, automatic, detail, root_good}
+use Rattle.spec.specs.Root.{kind, path_master, automatic, detail, root_good}
 use Rattle.spec.specs.Layout.{area_length, shape_of, master_of, path_of, heads_of}
 use Rattle.spec.specs.Area.{Area}
 use Rattle.history.specs.Chain.{All, all_map}

@@ -1,6 +1,6 @@
 -- Under a master's invariant, the put of an entry whose key is absent: it is refused only where every record is live, and then as it was told to be; otherwise the
 -- invariant holds again, the entry stands in the record answered, with empty heads, and every other entry is carried with its heads and its words.
-use Rattle.std.specs.Prelude.{◌≡◌, ◌≢◌, ◌⊎◌, cond, ℕ, ◌+◌, ◌-◌, ◌≤◌, ◌<◌, length, eqb}
+use Rattle.std.specs.Prelude.{◌≡◌, ◌≢◌, ◌⊎◌, cond, ℕ, ◌+◌, ◌≤◌, ◌<◌, length, eqb}
 use Rattle.std.proofs.Math.Path.{refl, sym, ap, subst}
 use Rattle.std.proofs.Common.{◌∙◌, arith, eqb-true, eq-eqb, ne_eqb, lt-ltb, le-ltb}
 use Rattle.std.proofs.Math.Logic.{Ne-symm, inl, inr, dite}

@@ -3,7 +3,7 @@ use Prim.Native.Nat.{ℕ, suc, ◌+◌, ◌*◌, ◌/◌, ◌≤◌, ◌<◌, �
 use mathlib.Core.Path.{◌≡◌, refl, sym, ◌∙◌, ap}
 use mathlib.Core.Bool.{true, false, not}
 use mathlib.Core.Logic.{dite}
-use mathlib.Core.List.{List, [], ◌∷◌, ◌++◌, append_assoc, append-nil, map}
+use mathlib.Core.List.{List, [], ◌∷◌, ◌++◌, append_assoc, append-nil}
 use native.Mathlib.Decide.{ℕ_discrete}
 use native.Mathlib.Numerals.{add-one}
 use native.Mathlib.Omega.{arith}
@@ -12,7 +12,7 @@ use lib.Seq.{take-suc-set}
 use lib.Dec.{eqb, ltb}
 use mir.Syntax.{w16}
 use mir.Val.{Fits}
-use borrow.Author.Rules.{Fits-under, length_unmapped}
+use borrow.Author.Rules.{Fits-under}
 use borrow.Author.Tests.{eqb-true, eq-eqb, ne_eqb, not-true}
 use Rattle.spec.specs.Words.{within, total, latest}
 use Rattle.spec.specs.Root.{items, sets, item_type, item_length, item_count, set_item, set_item_good, item_listed, among, kind, capacity, key_item, path_count, path_master, path_search, path_sort, bit, leading, leading_from, has_item, root_good}

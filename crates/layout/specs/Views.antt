@@ -1,11 +1,11 @@
 -- What the views of a good root's sets give: each is its definition, with the facts that go on from it.
 -- Assumes nothing.
-use Rattle.std.specs.Prelude.{ℕ, ◌+◌, ◌*◌, ◌≤◌, ◌<◌, ◌-◌, ◌≡◌, true, List, ◌++◌, take, ltb}
+use Rattle.std.specs.Prelude.{ℕ, ◌+◌, ◌*◌, ◌≤◌, ◌-◌, ◌≡◌, true, List, ◌++◌, take, ltb}
 use Rattle.spec.specs.declared.Shape.{Shape}
 use Rattle.spec.specs.declared.Master.{Master}
 use Rattle.spec.specs.declared.Path.{Path}
-use Rattle.spec.specs.Root.{sets, kind, key_item, item_type, automatic, is_text, path_master, path_search, path_sort, leading, leading_from}
-use Rattle.spec.specs.Layout.{entry_length, start_of, field_of, shape_of, master_of, path_of, sort_of, heads_from, heads_in}
+use Rattle.spec.specs.Root.{kind, key_item, item_type, automatic, is_text, path_master, path_search, path_sort, leading, leading_from}
+use Rattle.spec.specs.Layout.{entry_length, field_of, shape_of, master_of, path_of, sort_of, heads_from, heads_in}
 use Rattle.layout.specs.declared.Heads.{Heads}
 use Rattle.layout.specs.declared.Key.{Key}
 use Rattle.layout.specs.declared.Sides.{Sides}

@@ -1,6 +1,6 @@
 -- Laws of scanning from a place on: what is still to be read from there makes the whole.
 -- Assumes nothing.
-use Prim.Native.Nat.{ℕ, zero, suc, ◌+◌, ◌-◌, ◌*◌, ◌≤◌, ◌<◌}
+use Prim.Native.Nat.{ℕ, suc, ◌+◌, ◌-◌, ◌*◌, ◌≤◌, ◌<◌}
 use mathlib.Core.Path.{◌≡◌, refl, sym, ◌∙◌, ap}
 use mathlib.Core.Bool.{Bool, true, false, ◌&&◌}
 use mathlib.Core.List.{List, [], ◌∷◌}
@@ -10,7 +10,6 @@ use borrow.Author.Tests.{lt-ltb, le-ltb, eq-eqb, ne_eqb}
 use lib.ListN.{length, get_or, drop, drop_of_length-le}
 use lib.Dec.{eqb}
 use lib.Seq.{drop-cons}
-use Rattle.lines.specs.declared.Number.{Number}
 use Rattle.lines.specs.declared.Number.TheVariants.{Given, Bad}
 use Rattle.lines.specs.Lines.{blank, letter, other, first, upper_case, alike, digits_after, number}
 

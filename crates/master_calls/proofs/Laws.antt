@@ -1,6 +1,6 @@
 -- Laws of the changing calls on a master: each refusal in its order, and what is told at the end. Assumes nothing.
-use Prim.Native.Nat.{ℕ, zero, suc, ◌+◌, ◌-◌, ◌≤◌, ◌<◌}
-use mathlib.Core.Path.{◌≡◌, refl, sym, ◌∙◌, ap, subst}
+use Prim.Native.Nat.{ℕ, ◌≤◌, ◌<◌}
+use mathlib.Core.Path.{◌≡◌, refl, sym, ◌∙◌, ap}
 use mathlib.Core.Bool.{Bool, true, false, not}
 use mathlib.Core.List.{List, []}
 use native.Mathlib.Omega.{arith}
@@ -23,7 +23,7 @@ use Rattle.spec.specs.Master.{Put, find_key, put_entry, without_lines, no_lines,
 use Rattle.spec.specs.Detail.{Line, none_passed}
 use Rattle.spec.specs.Cursor.{no_links, at_record, seen, current_record}
 use Rattle.spec.specs.Calls.{Done as DoneBy, status_words, open_to_change, put_master, put_in, put_on, keeps, keeps_all, update_on, delete_master, delete_in, delete_on}
-use Rattle.spec.specs.Follow.{goes, stops, taken, other, passes, fails}
+use Rattle.spec.specs.Follow.{goes, stops, passes, fails}
 use Rattle.find.specs.declared.Num.{Num}
 use Rattle.find.specs.declared.Num.TheVariants.{Good as Number, Broken as Lost}
 use Rattle.find.specs.declared.Lines.{Lines}
@@ -32,17 +32,16 @@ use Rattle.find.specs.Answers.{num_out, none_out}
 use Rattle.find.specs.FindLaws.{then_after, num_good, num_broken, lines_none, lines_some, lines_broken}
 use Rattle.master_put.specs.declared.Entered.{Entered}
 use Rattle.master_put.specs.declared.Entered.TheVariants.{At, Refused as EntryRefused}
-use Rattle.master_put.specs.Answers.{put_out, area_out, Unput, Unwritten}
-use Rattle.master_put.specs.PutLaws.{put_done, put_refused, put_low, unput, area_done, area_refused, unwritten}
+use Rattle.master_put.specs.Answers.{put_out, area_out, Unput}
+use Rattle.master_put.specs.PutLaws.{put_done, put_refused, unput, area_done, area_refused}
 use Rattle.named.specs.declared.Found.{Found}
 use Rattle.named.specs.declared.Found.TheVariants.{At as Found_at, Refused as Unfound}
 use Rattle.named.specs.Answers.{found_out}
 use Rattle.named.specs.NamedLaws.{found_at, found_none}
 use Rattle.session.specs.declared.Good.{Good}
-use Rattle.session.specs.declared.Outcome.{Outcome as Ending}
-use Rattle.session.specs.declared.Outcome.TheVariants.{Done, Refused}
+use Rattle.session.specs.declared.Outcome.TheVariants.{Done}
 use Rattle.session.specs.Answers.{done_out}
-use Rattle.master_calls.specs.Answers.{Unchanged, told, entered, sized, rewritten, dropped, emptied}
+use Rattle.master_calls.specs.Answers.{told, entered, sized, rewritten, dropped, emptied}
 
 -- ---- what is told
 pub told_is :

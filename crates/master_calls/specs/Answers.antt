@@ -4,7 +4,7 @@ use Rattle.std.specs.Prelude.{ℕ, ◌≡◌, List, [], eqb}
 use Rattle.spec.specs.declared.Refusal.TheVariants.{SetFull, KeyPresent, HasLines}
 use Rattle.spec.specs.declared.Cursor.{Cursor}
 use Rattle.spec.specs.declared.Master.{Master}
-use Rattle.spec.specs.Outcome.{Outcome as OutcomeOf, accept, refuse, require, ◌>>=◌}
+use Rattle.spec.specs.Outcome.{Outcome as OutcomeOf, require, ◌>>=◌}
 use Rattle.spec.specs.Area.{Area, value, synonym_count}
 use Rattle.spec.specs.Master.{find_key, put_entry, without_lines, remove_entry}
 use Rattle.spec.specs.Detail.{none_passed}

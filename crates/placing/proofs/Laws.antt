@@ -3,7 +3,6 @@ use Prim.Native.Nat.{ℕ, zero, suc, ◌+◌, ◌-◌, ◌≤◌, ◌<◌}
 use mathlib.Core.Path.{◌≡◌, refl, sym, ◌∙◌, ap, subst}
 use mathlib.Core.Bool.{Bool, true, false, not, ◌||◌}
 use mathlib.Core.List.{List}
-use native.Mathlib.Numerals.{add-one, sub-one}
 use native.Mathlib.Omega.{arith}
 use borrow.Author.Tests.{lt-ltb, le-ltb, eq-eqb, ne_eqb}
 use lib.Dec.{eqb}
@@ -17,7 +16,7 @@ use Rattle.spec.specs.declared.Master.{Master}
 use Rattle.spec.specs.declared.Path.{Path}
 use Rattle.spec.specs.declared.Spot.{Spot}
 use Rattle.spec.specs.declared.Taken.{Taken}
-use Rattle.spec.specs.Outcome.{Outcome, accept, refuse, require, ◌>>=◌}
+use Rattle.spec.specs.Outcome.{Outcome, accept, refuse, ◌>>=◌}
 use Rattle.spec.specs.Words.{greater}
 use Rattle.spec.specs.Area.{live, peek, poke, poke_link, mend, value, value_at, mark, freed, next_freed, read, follow, read_head, read_links, set_head_count, set_last, set_first, mend_back, mend_fore}
 use Rattle.spec.specs.Master.{Put, find_key, put_entry}
@@ -43,9 +42,7 @@ use Rattle.placing.specs.declared.SpotRead.{SpotRead}
 use Rattle.placing.specs.declared.SpotRead.TheVariants.{At as Stands, Broken as Stuck}
 use Rattle.placing.specs.declared.Look.{Look}
 use Rattle.placing.specs.declared.Look.TheVariants.{Pass, Stop, Broken as LookBroken}
-use Rattle.placing.specs.declared.Placing.{Placing}
-use Rattle.placing.specs.declared.Placing.TheVariants.{Passed, Refused as Unplaced}
-use Rattle.placing.specs.Answers.{spot_out, placed_out, Says, stands, goes_on, look_out, looked, end_set, Low, entry_room, path_room}
+use Rattle.placing.specs.Answers.{spot_out, Says, stands, goes_on, look_out, looked, end_set, Low, entry_room, path_room}
 
 -- ---- the record taken
 module _ (s : Shape) (a : List ℕ) (high r : ℕ) (b : Bool) (l : b ≡ live s a r) where

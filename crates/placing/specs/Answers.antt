@@ -1,6 +1,6 @@
 -- What the steps of one path's turn answer, as outcomes of the definitions, and how much such a turn may overwrite.
 -- Assumes nothing.
-use Rattle.std.specs.Prelude.{ℕ, ◌+◌, ◌≤◌, Bool, true, false, List, eqb}
+use Rattle.std.specs.Prelude.{ℕ, ◌+◌, ◌≤◌, true, false, List, eqb}
 use Rattle.spec.specs.declared.Refusal.TheVariants.{Broken as BrokenLink}
 use Rattle.spec.specs.declared.Path.{Path}
 use Rattle.spec.specs.declared.Shape.{Shape}

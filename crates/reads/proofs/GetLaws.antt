@@ -21,7 +21,7 @@ use Rattle.spec.specs.Root.{sets, capacity, path_count, item_length, search_path
 use Rattle.spec.specs.Layout.{Detail, View, a_master, a_detail, links_of, shape_of, master_of, heads_of, path_of, detail_of, view_shape}
 use Rattle.spec.specs.Area.{peek_links, read_links, read_head, synonyms, synonym_count, entry_at}
 use Rattle.spec.specs.Master.{find_key}
-use Rattle.spec.specs.Cursor.{fresh, paths_in, cursor_good, at_chain, at_record, no_links, saved_links, seen, links_readable, readable, readings, reading, mode_good, value_good, path_chosen, nonzero, record_for, current}
+use Rattle.spec.specs.Cursor.{fresh, paths_in, cursor_good, at_chain, at_record, no_links, saved_links, seen, links_readable, readable, readings, reading, mode_good, value_good, path_chosen, nonzero, record_for}
 use Rattle.spec.specs.Detail.{head_at, none_passed}
 use Rattle.spec.specs.Calls.{Done as DoneBy, status_words, named_cursor, the_detail, find_chain, find_on, find_steps, get_on, get_steps}
 use Rattle.spec.specs.Follow.{goes, stops, taken, other, passes, fails}

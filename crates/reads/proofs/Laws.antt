@@ -13,7 +13,6 @@ use Rattle.spec.specs.declared.Shape.{Shape}
 use Rattle.spec.specs.declared.Cursor.{Cursor}
 use Rattle.spec.specs.declared.Master.{Master}
 use Rattle.spec.specs.Outcome.{Outcome as OutcomeOf, accept, refuse, require, ◌>>=◌}
-use Rattle.spec.specs.Root.{kind}
 use Rattle.spec.specs.Layout.{Detail, a_master, a_detail}
 use Rattle.spec.specs.Area.{live, read, follow}
 use Rattle.spec.specs.Master.{find_key}

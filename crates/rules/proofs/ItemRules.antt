@@ -13,13 +13,12 @@ use lib.Bits.{bit_or, bit_and, or_zero_l, or_add_and, and_le_r}
 use mir.Syntax.{w16}
 use mir.Val.{Fits}
 use borrow.Author.Rules.{Fits-under}
-use borrow.Author.Tests.{eq-eqb, ne_eqb, le-leb, lt-leb}
+use borrow.Author.Tests.{ne_eqb, le-leb, lt-leb}
 use Rattle.spec.specs.Words.{all, any, within, total}
 use Rattle.spec.specs.Root.{items, sets, root_length, item_type, item_length, kind, key_item, path_count, item_count, set_item, item_good, among, item_listed, kind_good, description, capacity, set_item_good, set_good}
 use Rattle.spec.specs.Layout.{items_length, entry_length}
-use Rattle.root.specs.Ranges.{and_left, total_more, refused, never_both, or_none, any_more, and_both, and_false, same_test, all_at, all_of, all_fails}
+use Rattle.root.specs.Ranges.{and_left, total_more, refused, never_both, or_none, any_more, and_both, and_false, same_test, all_at, all_of}
 use Rattle.root.specs.Good.{within_facts, length_fits, place_listed}
-use Rattle.root.proofs.Loops.{all_more}
 use Rattle.rules.specs.Rules.{framed, longest, unused, items_good, held, Holds}
 use Rattle.rules.proofs.Bits.{held_none, held_with}
 

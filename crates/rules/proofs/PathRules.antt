@@ -14,7 +14,7 @@ use mir.Syntax.{w16}
 use mir.Val.{Fits}
 use borrow.Author.Tests.{eqb-true, eq-eqb, ne_eqb, le-leb, lt-leb}
 use borrow.Author.Rules.{Fits-under}
-use Rattle.spec.specs.Words.{within, all, any, latest}
+use Rattle.spec.specs.Words.{within, any, latest}
 use Rattle.spec.specs.Root.{items, sets, set_item, set_item_good, item_listed, among, set_good, item_type, item_length, kind, item_count, key_item, path_count, path_master, path_search, path_sort, is_unsigned, is_text, leading, leading_from, has_item, names_master, fits_key, search_good, sort_good, path_good}
 use Rattle.root.specs.Ranges.{and_left, and_false, any_more, all_at, Latest}
 use Rattle.root.specs.Plan.{place_of, head_number}

@@ -2,9 +2,8 @@
 -- The steps reach the area through these definitions alone, so the place and the width of a count or a link stand here and
 -- in Layout and nowhere else.
 -- Assumes nothing.
-use Rattle.std.specs.Prelude.{ℕ, zero, suc, ◌+◌, ◌-◌, ◌*◌, ◌/◌, ◌%◌, ◌^◌, Bool, true, false, ◌&&◌, ◌||◌, not, List, set, replicate, leb, eqb}
+use Rattle.std.specs.Prelude.{ℕ, ◌+◌, ◌-◌, ◌*◌, ◌/◌, ◌%◌, ◌^◌, Bool, true, false, ◌&&◌, ◌||◌, not, List, set, replicate, leb, eqb}
 use Rattle.std.specs.Int.Bits.{bit_or, bit_xor}
-use Rattle.spec.specs.declared.Refusal.{Refusal}
 use Rattle.spec.specs.declared.Refusal.TheVariants.{Broken}
 use Rattle.spec.specs.declared.Field.{Field}
 use Rattle.spec.specs.declared.Shape.{Shape}

@@ -1,6 +1,6 @@
 -- Document 01, "Cursors and reading": the cursor, its moves, and the record that each get mode reads.
 -- Assumes nothing.
-use Rattle.std.specs.Prelude.{ℕ, zero, suc, ◌+◌, ◌-◌, ◌*◌, Bool, true, false, ◌&&◌, List, [], ◌∷◌, length, get_or, leb, ltb, eqb}
+use Rattle.std.specs.Prelude.{ℕ, zero, suc, ◌+◌, ◌-◌, Bool, true, false, ◌&&◌, List, [], ◌∷◌, length, get_or, leb, ltb, eqb}
 use Rattle.spec.specs.declared.Refusal.{Refusal}
 use Rattle.spec.specs.declared.Refusal.TheVariants.{NoMode, NoRecord, NoneBelow, NoneAbove, RecordZero, PastCapacity, ChainStart, ChainEnd}
 use Rattle.spec.specs.declared.Shape.{Shape}
@@ -9,7 +9,7 @@ use Rattle.spec.specs.declared.Links.{Links}
 use Rattle.spec.specs.declared.Cursor.{Cursor}
 use Rattle.spec.specs.declared.Master.{Master}
 use Rattle.spec.specs.Outcome.{Outcome, accept, refuse, require, ◌>>=◌}
-use Rattle.spec.specs.Layout.{Detail, View, a_master, a_detail, view_shape, links_of}
+use Rattle.spec.specs.Layout.{View, a_master, a_detail, view_shape, links_of}
 use Rattle.spec.specs.Area.{Area, live, read, follow, peek_links, read_links, synonyms, synonym_count}
 use Rattle.spec.specs.Master.{find_key}
 

@@ -1,8 +1,7 @@
 -- Document 01, "Detail steps": put with its paths, automatic entries and sorted places; delete with unlinking, and the
 -- dropping of automatic entries.
 -- Assumes nothing.
-use Rattle.std.specs.Prelude.{ℕ, zero, suc, ◌+◌, ◌-◌, ◌*◌, Bool, true, false, not, List, set, replicate, ltb, eqb}
-use Rattle.spec.specs.declared.Refusal.{Refusal}
+use Rattle.std.specs.Prelude.{ℕ, zero, suc, ◌+◌, ◌-◌, true, false, not, List, set, replicate, ltb, eqb}
 use Rattle.spec.specs.declared.Refusal.TheVariants.{SetFull, NoEntry, MasterFull, Broken}
 use Rattle.spec.specs.declared.Shape.{Shape}
 use Rattle.spec.specs.declared.Head.{Head}

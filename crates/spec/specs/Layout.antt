@@ -1,7 +1,7 @@
 -- Document 01, "The area": where each set, record and word stands. What is known of a set is computed from the root once;
 -- the steps go by its plain numbers and name no root.
 -- Assumes nothing.
-use Rattle.std.specs.Prelude.{ℕ, zero, suc, ◌+◌, ◌-◌, ◌*◌, ◌/◌, Bool, true, false, cond, List, [], ◌∷◌, ◌++◌, length, leb, ltb, eqb}
+use Rattle.std.specs.Prelude.{ℕ, zero, suc, ◌+◌, ◌-◌, ◌*◌, ◌/◌, true, false, List, [], ◌∷◌, ◌++◌, ltb, eqb}
 use Rattle.spec.specs.declared.Field.{Field}
 use Rattle.spec.specs.declared.Shape.{Shape}
 use Rattle.spec.specs.declared.Master.{Master}

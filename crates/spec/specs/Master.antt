@@ -1,7 +1,7 @@
 -- Document 01, "Master steps": the primary address, find, put with the move of a secondary, delete with the move of the
 -- first secondary.
 -- Assumes nothing.
-use Rattle.std.specs.Prelude.{ℕ, zero, suc, ◌+◌, ◌-◌, ◌*◌, ◌%◌, ◌^◌, Bool, true, false, cond, ◌&&◌, not, List, [], ◌∷◌, ◌++◌, get_or, leb, ltb, eqb}
+use Rattle.std.specs.Prelude.{ℕ, zero, suc, ◌+◌, ◌-◌, ◌*◌, ◌%◌, ◌^◌, Bool, true, false, cond, not, List, [], ◌∷◌, ltb, eqb}
 use Rattle.spec.specs.declared.Refusal.{Refusal}
 use Rattle.spec.specs.declared.Refusal.TheVariants.{Broken}
 use Rattle.spec.specs.declared.Shape.{Shape}

@@ -1,6 +1,6 @@
 -- Document 01, "Condition words": refusals and their numbers, the word that is stored, and what a step comes to.
 -- Assumes nothing.
-use Rattle.std.specs.Prelude.{ℕ, zero, suc, ◌+◌, ◌-◌, Bool, true, false, List, [], ◌∷◌, ℤ, pos, negsuc, replicate}
+use Rattle.std.specs.Prelude.{ℕ, zero, suc, ◌+◌, ◌-◌, Bool, true, false, List, ◌∷◌, ℤ, pos, negsuc, replicate}
 use Rattle.spec.specs.declared.Refusal.{Refusal}
 use Rattle.spec.specs.declared.Refusal.TheVariants.{BadRoot, BadLength, NoSet, BadCursor, NotByCall, NoMode, NotSearched, WrongLength, NoPath, ShortBuffer, NoRecord, NoneBelow, NoneAbove, RecordZero, PastCapacity, ChainStart, ChainEnd, KeyChanged, KeyPresent, SetFull, HasLines, NoEntry, MasterFull, Broken}
 

@@ -1,6 +1,6 @@
 -- Document 01, "The root": where its words stand, and the rules that −91 refuses.
 -- Assumes nothing.
-use Rattle.std.specs.Prelude.{ℕ, zero, suc, ◌+◌, ◌-◌, ◌*◌, Bool, true, false, ◌&&◌, ◌||◌, not, List, [], ◌∷◌, length, leb, ltb, eqb}
+use Rattle.std.specs.Prelude.{ℕ, ◌+◌, ◌-◌, ◌*◌, Bool, true, false, ◌&&◌, ◌||◌, not, List, length, leb, eqb}
 use Rattle.spec.specs.Words.{word, within, all, any, total, latest}
 
 -- The root's limits and lengths, each named once.

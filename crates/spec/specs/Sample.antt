@@ -1,7 +1,7 @@
 -- Document 01, "The sample base, and cases at the edges": the base; P1 to P12, "one table with a single theorem about the
 -- definitions"; the edges of root and area.
 -- Assumes nothing.
-use Rattle.std.specs.Prelude.{ℕ, zero, suc, ◌+◌, ◌-◌, ◌*◌, ◌≡◌, refl, Bool, true, false, ◌&&◌, List, [], ◌∷◌, ◌++◌, length, replicate}
+use Rattle.std.specs.Prelude.{ℕ, ◌+◌, ◌≡◌, refl, Bool, true, ◌&&◌, List, [], ◌∷◌, ◌++◌, length, replicate}
 use Rattle.spec.specs.declared.Refusal.{Refusal}
 use Rattle.spec.specs.declared.Refusal.TheVariants.{BadRoot, BadLength, NoMode}
 use Rattle.spec.specs.declared.Cursor.{Cursor}
@@ -13,7 +13,7 @@ use Rattle.spec.specs.Area.{open_area, Area, place, live}
 use Rattle.spec.specs.Master.{open_master, key_number, address_in, address}
 use Rattle.spec.specs.Detail.{open_detail}
 use Rattle.spec.specs.Cursor.{open_cursor, fresh}
-use Rattle.spec.specs.Calls.{open_calls, Answer, make, find, get, put, update, delete}
+use Rattle.spec.specs.Calls.{open_calls, Answer, make, find, get, put, delete}
 
 -- "Items: 1 ACCT K1, 2 DATE K1, 3 QTY I1, 4 NAME X2. Set 1, manual, capacity 5: items 1, 4, key 1. Set 2, automatic, capacity
 -- 5: item 2. Set 3, detail, capacity 4: items 1, 2, 3; paths (1, 1, 2) and (2, 2, 0)." Here with any capacity of set 1.

@@ -1,5 +1,4 @@
 use Rattle.area.proofs.Laws.{carry_is}
-use borrow.Author.Rules.{rules}
 use Rattle.area.proofs.carry_part.Goals as goal
 
 pub returns-clause-is : goal.returns-clause-is

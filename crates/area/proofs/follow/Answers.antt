@@ -1,5 +1,4 @@
 use Rattle.area.proofs.Laws.{follow_none, follow_some}
-use borrow.Author.Rules.{rules}
 use Rattle.area.proofs.follow.Goals as goal
 
 pub returns-then-r-eq0 : goal.returns-then-r-eq0

@@ -1,5 +1,4 @@
 use Rattle.area.proofs.Laws.{freed_is}
-use borrow.Author.Rules.{rules}
 use Rattle.area.proofs.freed.Goals as goal
 
 pub returns : goal.returns

@@ -1,5 +1,4 @@
 use Rattle.area.proofs.Laws.{live_is}
-use borrow.Author.Rules.{rules}
 use Rattle.area.proofs.live.Goals as goal
 
 pub returns : goal.returns

@@ -1,5 +1,4 @@
 use Rattle.area.proofs.Laws.{go_live_is}
-use borrow.Author.Rules.{rules}
 use Rattle.area.proofs.mark_live.Goals as goal
 
 pub returns-clause-is : goal.returns-clause-is

@@ -1,5 +1,4 @@
 use Rattle.area.proofs.Laws.{go_unused_is}
-use borrow.Author.Rules.{rules}
 use Rattle.area.proofs.mark_unused.Goals as goal
 
 pub returns-clause-is : goal.returns-clause-is

@@ -1,6 +1,5 @@
 use Rattle.journal.specs.BackLaws.{back_none}
 use Rattle.area.proofs.Laws.{mend_none, mend_some}
-use borrow.Author.Rules.{rules}
 use Rattle.area.proofs.mend.Goals as goal
 
 pub returns-then-r-eq0-clause-is : goal.returns-then-r-eq0-clause-is

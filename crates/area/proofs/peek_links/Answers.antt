@@ -1,5 +1,4 @@
 use Rattle.area.proofs.Laws.{links_are}
-use borrow.Author.Rules.{rules}
 use Rattle.area.proofs.peek_links.Goals as goal
 
 pub returns : goal.returns

@@ -1,5 +1,4 @@
 use Rattle.area.proofs.Laws.{poke_is}
-use borrow.Author.Rules.{rules}
 use Rattle.area.proofs.poke.Goals as goal
 
 pub returns-clause-is : goal.returns-clause-is

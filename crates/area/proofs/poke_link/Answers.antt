@@ -1,5 +1,4 @@
 use Rattle.area.proofs.Laws.{poke_link_is}
-use borrow.Author.Rules.{rules}
 use Rattle.area.proofs.poke_link.Goals as goal
 
 pub returns-clause-is : goal.returns-clause-is

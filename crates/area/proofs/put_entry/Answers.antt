@@ -1,5 +1,4 @@
 use Rattle.area.proofs.Laws.{put_entry_is}
-use borrow.Author.Rules.{rules}
 use Rattle.area.proofs.put_entry.Goals as goal
 
 pub returns-clause-is : goal.returns-clause-is

@@ -1,5 +1,4 @@
 use Rattle.area.proofs.Laws.{head_whole, head_count, head_back, head_fore}
-use borrow.Author.Rules.{rules}
 use Rattle.area.proofs.read_head.Goals as goal
 
 pub returns-then-fore-c : goal.returns-then-fore-c

@@ -1,5 +1,4 @@
 use Rattle.area.proofs.Laws.{links_whole, links_back, links_fore}
-use borrow.Author.Rules.{rules}
 use Rattle.area.proofs.read_links.Goals as goal
 
 pub returns-then-fore-c : goal.returns-then-fore-c

@@ -1,5 +1,4 @@
 use Rattle.area.proofs.Laws.{freed_set}
-use borrow.Author.Rules.{rules}
 use Rattle.area.proofs.set_freed.Goals as goal
 
 pub returns-clause-is : goal.returns-clause-is

@@ -1,6 +1,5 @@
 use Rattle.area.proofs.Laws.{synonyms_set}
 use Rattle.journal.specs.BackLaws.{back_three}
-use borrow.Author.Rules.{rules}
 use Rattle.area.proofs.set_synonyms.Goals as goal
 
 pub returns-clause-is : goal.returns-clause-is

@@ -1,5 +1,4 @@
 use Rattle.area.proofs.Laws.{synonyms_whole, synonyms_count, synonyms_back, synonyms_fore}
-use borrow.Author.Rules.{rules}
 use Rattle.area.proofs.synonyms.Goals as goal
 
 pub returns-then-link_good-2 : goal.returns-then-link_good-2

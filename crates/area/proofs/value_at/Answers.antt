@@ -1,5 +1,4 @@
 use Rattle.area.proofs.Laws.{value_is}
-use borrow.Author.Rules.{rules}
 use Rattle.area.proofs.value_at.Goals as goal
 
 pub returns : goal.returns

@@ -1,6 +1,5 @@
 use mathlib.Core.Bool.{false≢true}
 use Rattle.area.proofs.Laws.{alike_ones, alike_zeros}
-use borrow.Author.Rules.{rules}
 use Rattle.area.proofs.word_alike.Goals as goal
 
 pub returns-then-on : goal.returns-then-on

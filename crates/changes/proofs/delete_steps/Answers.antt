@@ -1,6 +1,5 @@
-use Rattle.named.specs.NamedLaws.{chosen_detail_high, chosen_detail_low, chosen_detail_plan, chosen_master_high, chosen_master_kind, chosen_master_low, chosen_master_plan, chosen_path}
+use Rattle.named.specs.NamedLaws.{chosen_detail_high, chosen_detail_low, chosen_detail_plan, chosen_master_high, chosen_master_kind, chosen_master_low, chosen_master_plan}
 use Rattle.changes.proofs.Laws.{delete_refused, delete_master, delete_detail, master_settable, detail_settable, detail_kind, detail_current}
-use borrow.Author.Rules.{rules}
 use Rattle.changes.proofs.delete_steps.Goals as goal
 
 pub delete_in_master-requires-clause-planned : goal.delete_in_master-requires-clause-planned

@@ -1,5 +1,4 @@
 use Rattle.changes.proofs.Laws.{put_here}
-use borrow.Author.Rules.{rules}
 use Rattle.changes.proofs.put_in_master.Goals as goal
 
 pub returns-clause-is : goal.returns-clause-is

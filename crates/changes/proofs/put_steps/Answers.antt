@@ -1,6 +1,5 @@
 use Rattle.named.specs.NamedLaws.{chosen_detail_high, chosen_detail_low, chosen_detail_plan, chosen_master_high, chosen_master_kind, chosen_master_low, chosen_master_plan, chosen_path}
 use Rattle.changes.proofs.Laws.{put_refused, put_master, put_detail, master_settable, detail_settable, detail_kind}
-use borrow.Author.Rules.{rules}
 use Rattle.changes.proofs.put_steps.Goals as goal
 
 pub put_in_master-requires-clause-planned : goal.put_in_master-requires-clause-planned

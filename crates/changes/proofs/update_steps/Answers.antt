@@ -1,6 +1,5 @@
-use Rattle.named.specs.NamedLaws.{chosen_detail_high, chosen_detail_low, chosen_detail_plan, chosen_master_high, chosen_master_kind, chosen_master_low, chosen_master_plan, chosen_path}
+use Rattle.named.specs.NamedLaws.{chosen_detail_high, chosen_detail_low, chosen_detail_plan, chosen_master_high, chosen_master_kind, chosen_master_low, chosen_master_plan}
 use Rattle.changes.proofs.Laws.{update_refused, update_master, update_detail, master_settable, detail_settable}
-use borrow.Author.Rules.{rules}
 use Rattle.changes.proofs.update_steps.Goals as goal
 
 pub update_in_master-requires-clause-planned : goal.update_in_master-requires-clause-planned

@@ -1,9 +1,4 @@
 use borrow.Author.Rules.{rules}
-use Prim.Native.Nat.{◌≤◌, ◌-◌}
-use mathlib.Core.Path.{◌≡◌}
-use mathlib.Core.Bool.{true}
-use Rattle.spec.specs.Layout.{detail_of}
-use Rattle.spec.specs.Calls.{keeps_paths}
 use Rattle.detail_calls.proofs.Laws.{kept_none, kept_next, kept_sort, kept_search, kept_end}
 use Rattle.detail_calls.proofs.keeps_paths.Goals as goal
 

@@ -1,5 +1,4 @@
 use Rattle.detail_calls.proofs.Laws.{search_there, search_is}
-use borrow.Author.Rules.{rules}
 use Rattle.detail_calls.proofs.keeps_search.Goals as goal
 
 pub field_of-f-requires-clause-item_value : goal.field_of-f-requires-clause-item_value

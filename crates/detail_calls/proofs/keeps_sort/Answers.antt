@@ -1,5 +1,4 @@
 use Rattle.detail_calls.proofs.Laws.{sort_none, sort_there, sort_is}
-use borrow.Author.Rules.{rules}
 use Rattle.detail_calls.proofs.keeps_sort.Goals as goal
 
 pub returns-then-sort-eq0 : goal.returns-then-sort-eq0

@@ -1,5 +1,4 @@
 use Rattle.detail_calls.proofs.Laws.{rewrote_done, rewrote_not}
-use borrow.Author.Rules.{rules}
 use Rattle.detail_calls.proofs.rewrite.Goals as goal
 
 pub returns-then-keeps_paths-clause-is : goal.returns-then-keeps_paths-clause-is

@@ -1,5 +1,4 @@
 use Rattle.detail_calls.proofs.Laws.{saved_none, saved_some}
-use borrow.Author.Rules.{rules}
 use Rattle.detail_calls.proofs.saved_links.Goals as goal
 
 pub returns-then-path-eq0 : goal.returns-then-path-eq0

@@ -1,5 +1,4 @@
 use Rattle.detail_calls.proofs.Laws.{lined_is}
-use borrow.Author.Rules.{rules}
 use Rattle.detail_calls.proofs.tell_line.Goals as goal
 
 pub returns : goal.returns

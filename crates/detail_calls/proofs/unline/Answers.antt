@@ -1,6 +1,5 @@
 use Rattle.master_put.specs.PutLaws.{unwritten}
 use Rattle.detail_calls.proofs.Laws.{unlined_done, unlined_lost}
-use borrow.Author.Rules.{rules}
 use Rattle.detail_calls.proofs.unline.Goals as goal
 
 pub returns-then-delete_line-clause-is : goal.returns-then-delete_line-clause-is

@@ -1,5 +1,4 @@
 use Rattle.detail_delete.proofs.Laws.{at_is, at_room}
-use borrow.Author.Rules.{rules}
 use Rattle.detail_delete.proofs.delete_at.Goals as goal
 
 pub returns-clause-is : goal.returns-clause-is

@@ -1,6 +1,5 @@
 use Rattle.journal.specs.BackLaws.{back_start}
 use Rattle.detail_delete.proofs.Laws.{line_gone, line_unfreed, line_refused}
-use borrow.Author.Rules.{rules}
 use Rattle.detail_delete.proofs.delete_by.Goals as goal
 
 pub returns-then-next-d-clause-is : goal.returns-then-next-d-clause-is

@@ -1,6 +1,5 @@
 use Rattle.detail_delete.proofs.Laws.{turn_lost, turn_absent, turn_done, found_low}
 use Rattle.journal.specs.BackLaws.{back_none}
-use borrow.Author.Rules.{rules}
 use Rattle.detail_delete.proofs.delete_path.Goals as goal
 
 pub returns-then-k-eq0-clause-is : goal.returns-then-k-eq0-clause-is

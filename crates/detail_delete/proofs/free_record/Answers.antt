@@ -1,5 +1,4 @@
 use Rattle.detail_delete.proofs.Laws.{free_is}
-use borrow.Author.Rules.{rules}
 use Rattle.detail_delete.proofs.free_record.Goals as goal
 
 pub returns : goal.returns

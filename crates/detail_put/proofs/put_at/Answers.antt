@@ -1,5 +1,4 @@
 use Rattle.detail_put.proofs.Laws.{at_is, at_room}
-use borrow.Author.Rules.{rules}
 use Rattle.detail_put.proofs.put_at.Goals as goal
 
 pub returns-clause-is : goal.returns-clause-is

@@ -1,6 +1,5 @@
 use Rattle.journal.specs.BackLaws.{back_start}
 use Rattle.detail_put.proofs.Laws.{line_settled, line_unlined}
-use borrow.Author.Rules.{rules}
 use Rattle.detail_put.proofs.put_by.Goals as goal
 
 pub returns-in-Done-clause-is : goal.returns-in-Done-clause-is

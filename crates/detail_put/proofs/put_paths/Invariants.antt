@@ -1,12 +1,9 @@
 use Prim.Native.Nat.{◌≤◌, ◌-◌, ◌*◌}
 use mathlib.Core.Path.{◌≡◌}
 use lib.ListN.{length}
-use borrow.Author.Rules.{rules}
 use Rattle.spec.specs.Root.{path_count as paths_of}
 use Rattle.journal.specs.Journal.{Back}
-use Rattle.journal.specs.BackLaws.{back_none}
-use Rattle.turns.specs.Turns.{few, path_within, back_next, back_all, paths_all}
-use Rattle.detail_put.proofs.Laws.{From, Left, left_start, paths_next, paths_refused, paths_end}
+use Rattle.detail_put.proofs.Laws.{From, Left}
 use Rattle.detail_put.proofs.put_paths.Given as goal
 
 abbrev pub invariant-loop-i : goal.invariant-loop-i

@@ -1,5 +1,4 @@
 use Rattle.detail_put.proofs.Laws.{settle_is}
-use borrow.Author.Rules.{rules}
 use Rattle.detail_put.proofs.settle.Goals as goal
 
 pub returns : goal.returns

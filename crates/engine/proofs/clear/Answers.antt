@@ -1,7 +1,3 @@
-use Prim.Native.Nat.{◌≤◌, ◌-◌}
-use mathlib.Core.Path.{◌≡◌}
-use lib.ListN.{length, replicate}
-use lib.Seq.{sets}
 use borrow.Author.Rules.{rules}
 use Rattle.engine.proofs.Laws.{clear_start, clear_turn, clear_end}
 use Rattle.engine.proofs.clear.Goals as goal

@@ -1,6 +1,5 @@
 use Rattle.spec.specs.Calls.{delete}
 use Rattle.engine.proofs.Laws.{told_status, told_cursors, told_passed, told_area}
-use borrow.Author.Rules.{rules}
 use Rattle.engine.proofs.delete.Goals as goal
 
 pub returns-clause-status : goal.returns-clause-status

@@ -1,6 +1,5 @@
 use Rattle.spec.specs.Calls.{find}
 use Rattle.engine.proofs.Laws.{told_status, told_cursors, told_passed}
-use borrow.Author.Rules.{rules}
 use Rattle.engine.proofs.find.Goals as goal
 
 pub returns-clause-status : goal.returns-clause-status

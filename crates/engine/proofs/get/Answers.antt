@@ -1,5 +1,4 @@
 use Rattle.engine.proofs.Laws.{get_status, get_cursors, get_passed, get_buffer}
-use borrow.Author.Rules.{rules}
 use Rattle.engine.proofs.get.Goals as goal
 
 pub returns-clause-status : goal.returns-clause-status

@@ -1,5 +1,4 @@
 use Rattle.engine.proofs.Laws.{readable, got_buffer}
-use borrow.Author.Rules.{rules}
 use Rattle.engine.proofs.hand_over.Goals as goal
 
 pub entry_at-requires : goal.entry_at-requires

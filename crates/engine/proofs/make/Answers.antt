@@ -1,5 +1,4 @@
 use Rattle.engine.proofs.Laws.{make_status, make_area, unmade_status, unmade_area}
-use borrow.Author.Rules.{rules}
 use Rattle.engine.proofs.make.Goals as goal
 
 pub returns-in-Yes-clause-status : goal.returns-in-Yes-clause-status

@@ -1,6 +1,5 @@
 use Rattle.find.proofs.Laws.{address_is, address_fits}
 use Rattle.find.specs.FindLaws.{wrapped_low, wrapped_high}
-use borrow.Author.Rules.{rules}
 use Rattle.find.proofs.address.Goals as goal
 
 pub overflow_add-result-2 : goal.overflow_add-result-2

@@ -1,7 +1,4 @@
-use mathlib.Core.Path.{◌≡◌}
-use Rattle.spec.specs.Master.{find_along}
 use Rattle.find.proofs.Laws.{walk_end, walk_long, walk_lost, walk_here, walk_torn, walk_next}
-use borrow.Author.Rules.{rules}
 use Rattle.find.proofs.find_along.Goals as goal
 
 pub returns-then-left-eq0 : goal.returns-then-left-eq0

@@ -1,5 +1,4 @@
 use Rattle.find.proofs.Laws.{find_at, find_none}
-use borrow.Author.Rules.{rules}
 use Rattle.find.proofs.find_key.Goals as goal
 
 pub returns-then-live : goal.returns-then-live

@@ -1,5 +1,4 @@
 use Rattle.find.proofs.Laws.{find_torn, find_secondary, find_here, find_on}
-use borrow.Author.Rules.{rules}
 use Rattle.find.proofs.find_primary.Goals as goal
 
 pub returns-then-y-eq0 : goal.returns-then-y-eq0

@@ -1,5 +1,4 @@
 use Rattle.find.proofs.Laws.{same_key}
-use borrow.Author.Rules.{rules}
 use Rattle.find.proofs.has_key.Goals as goal
 
 pub returns : goal.returns

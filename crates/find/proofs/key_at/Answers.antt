@@ -1,5 +1,4 @@
 use Rattle.find.proofs.Laws.{key_is}
-use borrow.Author.Rules.{rules}
 use Rattle.find.proofs.key_at.Goals as goal
 
 pub returns : goal.returns

@@ -1,6 +1,5 @@
 use Rattle.find.specs.FindLaws.{num_positive}
 use Rattle.find.proofs.Laws.{last_lost, last_torn, last_whole}
-use borrow.Author.Rules.{rules}
 use Rattle.find.proofs.last_primary.Goals as goal
 
 pub synonyms-requires : goal.synonyms-requires

@@ -1,6 +1,5 @@
 use Rattle.find.specs.FindLaws.{num_positive}
 use Rattle.find.proofs.Laws.{lower_lost, lower_torn, lower_none, lower_to}
-use borrow.Author.Rules.{rules}
 use Rattle.find.proofs.lowered.Goals as goal
 
 pub synonyms-requires : goal.synonyms-requires

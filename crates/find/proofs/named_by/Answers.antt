@@ -1,5 +1,4 @@
 use Rattle.find.proofs.Laws.{named_last, named_next}
-use borrow.Author.Rules.{rules}
 use Rattle.find.proofs.named_by.Goals as goal
 
 pub returns-then-y-eq0 : goal.returns-then-y-eq0

@@ -2,8 +2,6 @@ use Prim.Native.Nat.{◌≤◌, ◌-◌}
 use mathlib.Core.Path.{◌≡◌}
 use lib.ListN.{length, drop}
 use Rattle.spec.specs.Master.{no_lines}
-use Rattle.find.proofs.Laws.{heads_end, heads_torn, heads_some, heads_next}
-use borrow.Author.Rules.{rules}
 use Rattle.find.proofs.no_lines.Given as goal
 
 abbrev pub invariant-loop-j : goal.invariant-loop-j

@@ -1,7 +1,3 @@
-use Prim.Native.Nat.{◌≤◌, ◌<◌, ◌-◌, ◌^◌}
-use mathlib.Core.Path.{◌≡◌}
-use lib.ListN.{length, drop}
-use Rattle.spec.specs.Master.{key_number}
 use Rattle.find.proofs.Laws.{number_turn, number_end}
 use borrow.Author.Rules.{rules}
 use Rattle.find.proofs.number_by.Goals as goal

@@ -2,8 +2,6 @@ use Prim.Native.Nat.{◌≤◌, ◌<◌, ◌-◌, ◌^◌}
 use mathlib.Core.Path.{◌≡◌}
 use lib.ListN.{length, drop}
 use Rattle.spec.specs.Master.{key_number}
-use Rattle.find.proofs.Laws.{number_turn, number_end}
-use borrow.Author.Rules.{rules}
 use Rattle.find.proofs.number_by.Given as goal
 
 abbrev pub invariant-loop-i : goal.invariant-loop-i

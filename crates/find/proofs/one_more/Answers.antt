@@ -1,5 +1,4 @@
 use Rattle.find.proofs.Laws.{product_fits, sum_fits}
-use borrow.Author.Rules.{rules}
 use Rattle.find.proofs.one_more.Goals as goal
 
 pub overflow_mul-t : goal.overflow_mul-t

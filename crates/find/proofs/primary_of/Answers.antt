@@ -1,5 +1,4 @@
 use Rattle.find.proofs.Laws.{primary_own, primary_live, primary_unused}
-use borrow.Author.Rules.{rules}
 use Rattle.find.proofs.primary_of.Goals as goal
 
 pub returns-then-p-r-clause-is : goal.returns-then-p-r-clause-is

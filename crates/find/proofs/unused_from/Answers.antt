@@ -1,6 +1,3 @@
-use Prim.Native.Nat.{◌≤◌}
-use mathlib.Core.Path.{◌≡◌}
-use Rattle.spec.specs.Master.{unused_from}
 use Rattle.find.proofs.Laws.{up_word, up_none, up_here, up_next}
 use borrow.Author.Rules.{rules}
 use Rattle.find.proofs.unused_from.Goals as goal

@@ -1,6 +1,5 @@
 use mathlib.Core.Bool.{false≢true}
 use Rattle.find.proofs.Laws.{full_is}
-use borrow.Author.Rules.{rules}
 use Rattle.find.proofs.word_full.Goals as goal
 
 pub returns-then-n-lt16 : goal.returns-then-n-lt16

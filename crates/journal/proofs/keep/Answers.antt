@@ -1,8 +1,5 @@
 use borrow.Author.Rules.{rules}
-use Rattle.journal.proofs.Laws.{KeptTo, keep_none, keep_more, kept}
-use lib.ListN.{length}
-use mathlib.Core.Path.{◌≡◌}
-use Prim.Native.Nat.{◌≤◌, ◌+◌, ◌-◌}
+use Rattle.journal.proofs.Laws.{keep_none, keep_more, kept}
 use Rattle.journal.proofs.keep.Goals as goal
 
 pub loop-i-init : goal.loop-i-init

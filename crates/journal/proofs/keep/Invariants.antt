@@ -1,5 +1,4 @@
-use borrow.Author.Rules.{rules}
-use Rattle.journal.proofs.Laws.{KeptTo, keep_none, keep_more, kept}
+use Rattle.journal.proofs.Laws.{KeptTo}
 use lib.ListN.{length}
 use mathlib.Core.Path.{◌≡◌}
 use Prim.Native.Nat.{◌≤◌, ◌+◌, ◌-◌}

@@ -1,5 +1,4 @@
 use Rattle.journal.proofs.Laws.{moved_is, moved_back}
-use borrow.Author.Rules.{rules}
 use Rattle.journal.proofs.move_by.Goals as goal
 
 pub returns-clause-is : goal.returns-clause-is

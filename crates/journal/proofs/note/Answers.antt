@@ -1,5 +1,4 @@
 use Rattle.journal.proofs.Laws.{noted_in, noted_full}
-use borrow.Author.Rules.{rules}
 use Rattle.journal.proofs.note.Goals as goal
 
 pub returns-then-n-jr : goal.returns-then-n-jr

@@ -1,9 +1,5 @@
 use borrow.Author.Rules.{rules}
 use Rattle.journal.proofs.Laws.{rewind_end, rewind_turn}
-use Rattle.journal.specs.Journal.{rewound}
-use lib.ListN.{length, take}
-use mathlib.Core.Path.{◌≡◌}
-use Prim.Native.Nat.{◌≤◌}
 use Rattle.journal.proofs.rewind.Goals as goal
 
 pub loop-k-preserved : goal.loop-k-preserved

@@ -1,5 +1,3 @@
-use borrow.Author.Rules.{rules}
-use Rattle.journal.proofs.Laws.{rewind_end, rewind_turn}
 use Rattle.journal.specs.Journal.{rewound}
 use lib.ListN.{length, take}
 use mathlib.Core.Path.{◌≡◌}

@@ -1,5 +1,4 @@
 use Rattle.journal.proofs.Laws.{stored}
-use borrow.Author.Rules.{rules}
 use Rattle.journal.proofs.store.Goals as goal
 
 pub returns-clause-back : goal.returns-clause-back

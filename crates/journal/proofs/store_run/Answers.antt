@@ -1,5 +1,4 @@
 use Rattle.journal.proofs.Laws.{stored_run}
-use borrow.Author.Rules.{rules}
 use Rattle.journal.proofs.store_run.Goals as goal
 
 pub returns-clause-back : goal.returns-clause-back

@@ -1,5 +1,3 @@
-use borrow.Author.Rules.{rules}
-use Rattle.journal.proofs.Laws.{zeros_start, zeros_turn, zeros_end, zeros_back}
 use lib.Seq.{sets}
 use lib.ListN.{length, replicate}
 use mathlib.Core.Path.{◌≡◌}

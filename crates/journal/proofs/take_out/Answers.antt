@@ -1,5 +1,4 @@
 use Rattle.journal.proofs.Laws.{out_size, out_fits, out_is}
-use borrow.Author.Rules.{rules}
 use Rattle.journal.proofs.take_out.Goals as goal
 
 pub slice_bounds-copy-end : goal.slice_bounds-copy-end

@@ -1,10 +1,6 @@
-use Prim.Native.Nat.{◌≤◌, ◌+◌, ◌*◌, ◌-◌}
-use mathlib.Core.Path.{◌≡◌}
 use borrow.Author.Rules.{rules}
-use Rattle.spec.specs.Layout.{start_of}
-use Rattle.spec.specs.Root.{sets}
 use Rattle.rules.proofs.SetRules.{lead_read}
-use Rattle.root.specs.Plan.{Filled, filled_start}
+use Rattle.root.specs.Plan.{filled_start}
 use Rattle.layout.proofs.Lengths.{entry_read, entry_read_small, started_turn, start_first, start_turn, start_last, starts_whole}
 use Rattle.layout.proofs.all_started.Goals as goal
 

@@ -1,4 +1,3 @@
-use borrow.Author.Rules.{rules}
 use Rattle.layout.proofs.Lengths.{plan_place, plan_entry, plan_entry_small}
 use Rattle.layout.proofs.entry_of.Goals as goal
 

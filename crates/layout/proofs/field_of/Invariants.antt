@@ -1,10 +1,7 @@
 use Prim.Native.Nat.{◌≤◌, ◌-◌}
 use mathlib.Core.Path.{◌≡◌}
-use borrow.Author.Rules.{rules}
 use Rattle.spec.specs.Root.{set_item}
 use Rattle.spec.specs.Layout.{items_length, item_number}
-use Rattle.layout.proofs.Lengths.{good_long}
-use Rattle.layout.proofs.ViewRules.{number_low, place_start, place_there, place_word, place_next, place_few, place_turn, field_is, field_in}
 use Rattle.layout.proofs.field_of.Given as goal
 
 abbrev pub invariant-loop-x : goal.invariant-loop-x

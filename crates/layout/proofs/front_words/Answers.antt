@@ -1,4 +1,3 @@
-use borrow.Author.Rules.{rules}
 use Rattle.layout.proofs.Lengths.{good_long, links_word, links_are, links_small, heads_part, heads_word, heads_are, heads_small}
 use Rattle.layout.proofs.front_words.Goals as goal
 

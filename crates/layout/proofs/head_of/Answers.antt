@@ -1,4 +1,3 @@
-use borrow.Author.Rules.{rules}
 use Rattle.layout.proofs.ViewRules.{slot_place, head_part, head_word, head_is, head_high, head_in}
 use Rattle.layout.proofs.head_of.Goals as goal
 

@@ -1,9 +1,7 @@
 use Prim.Native.Nat.{◌≤◌, ◌+◌, ◌-◌}
 use mathlib.Core.Path.{◌≡◌}
-use borrow.Author.Rules.{rules}
 use Rattle.spec.specs.Root.{sets}
 use Rattle.layout.specs.Views.{Headed}
-use Rattle.layout.proofs.ViewRules.{sets_few, headed_start, heads_are, heads_few}
 use Rattle.layout.proofs.heads_of.Given as goal
 
 abbrev pub invariant-loop-s : goal.invariant-loop-s

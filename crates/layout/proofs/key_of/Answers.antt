@@ -1,4 +1,3 @@
-use borrow.Author.Rules.{rules}
 use Rattle.layout.proofs.ViewRules.{key_told, keyed_is}
 use Rattle.layout.proofs.key_of.Goals as goal
 

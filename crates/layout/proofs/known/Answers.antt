@@ -1,4 +1,3 @@
-use borrow.Author.Rules.{rules}
 use Rattle.layout.proofs.Lengths.{planned}
 use Rattle.layout.proofs.known.Goals as goal
 

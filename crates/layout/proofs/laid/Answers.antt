@@ -1,4 +1,3 @@
-use borrow.Author.Rules.{rules}
 use Rattle.layout.proofs.Lengths.{good_long}
 use Rattle.layout.proofs.ViewRules.{laid_is}
 use Rattle.layout.proofs.laid.Goals as goal

@@ -1,4 +1,3 @@
-use borrow.Author.Rules.{rules}
 use Rattle.layout.proofs.Lengths.{plan_place, plan_lead, plan_lead_few}
 use Rattle.layout.proofs.lead_of.Goals as goal
 

@@ -1,4 +1,3 @@
-use borrow.Author.Rules.{rules}
 use Rattle.layout.proofs.ViewRules.{mastered_is}
 use Rattle.layout.proofs.master_of.Goals as goal
 

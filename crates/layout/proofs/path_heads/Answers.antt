@@ -1,4 +1,3 @@
-use borrow.Author.Rules.{rules}
 use Rattle.layout.proofs.Lengths.{good_long, good_paths}
 use Rattle.layout.proofs.ViewRules.{head_room, head_more, head_same}
 use Rattle.layout.proofs.path_heads.Goals as goal

@@ -1,4 +1,3 @@
-use borrow.Author.Rules.{rules}
 use Rattle.layout.proofs.ViewRules.{to_master_low, to_master_high, to_master_kind, links_fit, pathed_is}
 use Rattle.layout.proofs.path_of.Goals as goal
 

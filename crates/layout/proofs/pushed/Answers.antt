@@ -1,4 +1,3 @@
-use borrow.Author.Rules.{rules}
 use Rattle.layout.proofs.ViewRules.{push_is}
 use Rattle.layout.proofs.pushed.Goals as goal
 

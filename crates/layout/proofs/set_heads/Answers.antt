@@ -1,8 +1,4 @@
-use Prim.Native.Nat.{◌≤◌, ◌-◌}
-use mathlib.Core.Path.{◌≡◌}
 use borrow.Author.Rules.{rules}
-use Rattle.spec.specs.Root.{path_count}
-use Rattle.layout.specs.Views.{Headed}
 use Rattle.layout.proofs.Lengths.{good_long}
 use Rattle.layout.proofs.ViewRules.{headed_back, headed_set}
 use Rattle.layout.proofs.set_heads.Goals as goal

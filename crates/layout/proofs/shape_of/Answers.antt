@@ -1,4 +1,3 @@
-use borrow.Author.Rules.{rules}
 use Rattle.layout.proofs.Lengths.{plan_good}
 use Rattle.layout.proofs.shape_of.Goals as goal
 

@@ -1,4 +1,3 @@
-use borrow.Author.Rules.{rules}
 use Rattle.layout.proofs.ViewRules.{search_told, sided_is}
 use Rattle.layout.proofs.sides_of.Goals as goal
 

@@ -1,4 +1,3 @@
-use borrow.Author.Rules.{rules}
 use Rattle.layout.proofs.Lengths.{good_long, size_is, size_small}
 use Rattle.layout.proofs.size_of.Goals as goal
 

@@ -1,4 +1,3 @@
-use borrow.Author.Rules.{rules}
 use Rattle.rules.proofs.SetRules.{leads_told, entries_told}
 use Rattle.rules.proofs.Ladder.{told}
 use Rattle.layout.proofs.Lengths.{size_untold, starts_untold, good_sets, size_told}

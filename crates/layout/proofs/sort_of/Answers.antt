@@ -1,4 +1,3 @@
-use borrow.Author.Rules.{rules}
 use Rattle.layout.proofs.ViewRules.{sort_told, sort_none, sort_some}
 use Rattle.layout.proofs.sort_of.Goals as goal
 

@@ -1,4 +1,3 @@
-use borrow.Author.Rules.{rules}
 use Rattle.layout.proofs.Lengths.{plan_place, plan_start, plan_start_small}
 use Rattle.layout.proofs.start_of.Goals as goal
 

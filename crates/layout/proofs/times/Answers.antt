@@ -1,4 +1,3 @@
-use borrow.Author.Rules.{rules}
 use Rattle.layout.proofs.Lengths.{times_small, times_fits}
 use Rattle.layout.proofs.times.Goals as goal
 

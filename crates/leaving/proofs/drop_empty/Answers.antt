@@ -1,6 +1,5 @@
 use Rattle.journal.specs.BackLaws.{back_none}
 use Rattle.leaving.proofs.Laws.{empty_goes, full_stays, empty_torn}
-use borrow.Author.Rules.{rules}
 use Rattle.leaving.proofs.drop_empty.Goals as goal
 
 pub returns-in-None-clause-is : goal.returns-in-None-clause-is

@@ -1,5 +1,4 @@
 use Rattle.leaving.proofs.Laws.{back_lost, fore_lost, none_counted, hung_there}
-use borrow.Author.Rules.{rules}
 use Rattle.leaving.proofs.hung_by.Goals as goal
 
 pub returns-then-h-eq0 : goal.returns-then-h-eq0

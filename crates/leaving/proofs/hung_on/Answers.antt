@@ -1,5 +1,4 @@
 use Rattle.leaving.proofs.Laws.{hung_torn, hung_split, hung_read}
-use borrow.Author.Rules.{rules}
 use Rattle.leaving.proofs.hung_on.Goals as goal
 
 pub returns-in-Broken : goal.returns-in-Broken

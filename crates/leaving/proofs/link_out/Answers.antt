@@ -1,6 +1,5 @@
 use Rattle.journal.specs.BackLaws.{back_three}
 use Rattle.leaving.proofs.Laws.{out_is}
-use borrow.Author.Rules.{rules}
 use Rattle.leaving.proofs.link_out.Goals as goal
 
 pub returns-clause-is : goal.returns-clause-is

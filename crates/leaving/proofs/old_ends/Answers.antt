@@ -1,6 +1,5 @@
 use Rattle.journal.specs.BackLaws.{back_two}
 use Rattle.leaving.proofs.Laws.{ends_is}
-use borrow.Author.Rules.{rules}
 use Rattle.leaving.proofs.old_ends.Goals as goal
 
 pub returns-clause-is : goal.returns-clause-is

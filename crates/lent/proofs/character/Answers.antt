@@ -1,5 +1,4 @@
 use Rattle.lent.proofs.Laws.{character_in, character_past}
-use borrow.Author.Rules.{rules}
 use Rattle.lent.proofs.character.Goals as goal
 
 pub returns-then-i-text : goal.returns-then-i-text

@@ -1,6 +1,5 @@
 use mathlib.Core.Path.{refl}
 use Rattle.lent.specs.Lent.{cursor_at}
-use borrow.Author.Rules.{rules}
 use Rattle.lent.proofs.cursor_of_words.Goals as goal
 
 pub returns : goal.returns

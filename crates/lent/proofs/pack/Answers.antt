@@ -1,8 +1,3 @@
-use Prim.Native.Nat.{◌≤◌, ◌-◌}
-use mathlib.Core.Path.{◌≡◌}
-use lib.ListN.{length}
-use lib.Seq.{sets}
-use Rattle.lent.specs.Lent.{packed_from, packed}
 use Rattle.lent.proofs.Laws.{pack_start, pack_turn, pack_end}
 use borrow.Author.Rules.{rules}
 use Rattle.lent.proofs.pack.Goals as goal

@@ -3,8 +3,6 @@ use mathlib.Core.Path.{◌≡◌}
 use lib.ListN.{length}
 use lib.Seq.{sets}
 use Rattle.lent.specs.Lent.{packed_from, packed}
-use Rattle.lent.proofs.Laws.{pack_start, pack_turn, pack_end}
-use borrow.Author.Rules.{rules}
 use Rattle.lent.proofs.pack.Given as goal
 
 abbrev pub invariant-loop-i : goal.invariant-loop-i

@@ -1,7 +1,6 @@
 use native.Mathlib.Omega.{arith}
 use lib.ListN.{length-set}
 use Rattle.lent.proofs.Laws.{put_four}
-use borrow.Author.Rules.{rules}
 use Rattle.lent.proofs.put_cursor.Goals as goal
 
 pub bounds-words-at-2 : goal.bounds-words-at-2

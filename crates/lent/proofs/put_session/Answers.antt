@@ -1,8 +1,3 @@
-use Prim.Native.Nat.{◌≤◌, ◌-◌, ◌*◌}
-use mathlib.Core.Path.{◌≡◌}
-use lib.ListN.{length}
-use lib.Seq.{sets}
-use Rattle.lent.specs.Lent.{session_from, session_words}
 use Rattle.lent.proofs.Laws.{session_start, session_turn, session_end}
 use borrow.Author.Rules.{rules}
 use Rattle.lent.proofs.put_session.Goals as goal

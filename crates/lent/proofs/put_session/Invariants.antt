@@ -3,8 +3,6 @@ use mathlib.Core.Path.{◌≡◌}
 use lib.ListN.{length}
 use lib.Seq.{sets}
 use Rattle.lent.specs.Lent.{session_from, session_words}
-use Rattle.lent.proofs.Laws.{session_start, session_turn, session_end}
-use borrow.Author.Rules.{rules}
 use Rattle.lent.proofs.put_session.Given as goal
 
 abbrev pub invariant-loop-i : goal.invariant-loop-i

@@ -1,8 +1,3 @@
-use Prim.Native.Nat.{◌≤◌, ◌-◌}
-use mathlib.Core.Path.{◌≡◌}
-use lib.ListN.{length}
-use lib.Seq.{sets}
-use Rattle.lent.specs.Lent.{cursors_from, cursors_of}
 use Rattle.lent.proofs.Laws.{cursors_start, cursors_turn, cursors_end}
 use borrow.Author.Rules.{rules}
 use Rattle.lent.proofs.session_of.Goals as goal

@@ -3,8 +3,6 @@ use mathlib.Core.Path.{◌≡◌}
 use lib.ListN.{length}
 use lib.Seq.{sets}
 use Rattle.lent.specs.Lent.{cursors_from, cursors_of}
-use Rattle.lent.proofs.Laws.{cursors_start, cursors_turn, cursors_end}
-use borrow.Author.Rules.{rules}
 use Rattle.lent.proofs.session_of.Given as goal
 
 abbrev pub invariant-loop-i : goal.invariant-loop-i

@@ -1,9 +1,5 @@
-use Prim.Native.Nat.{◌≤◌, ◌-◌, ◌*◌}
-use mathlib.Core.Path.{◌≡◌}
 use native.Mathlib.Omega.{arith}
-use lib.ListN.{length, length-set, drop}
-use lib.Seq.{sets}
-use Rattle.lent.specs.Lent.{characters, unpacked}
+use lib.ListN.{length-set}
 use Rattle.lent.proofs.Laws.{unpack_start, unpack_turn, unpack_end}
 use borrow.Author.Rules.{rules}
 use Rattle.lent.proofs.unpack.Goals as goal

@@ -1,11 +1,8 @@
 use Prim.Native.Nat.{◌≤◌, ◌-◌, ◌*◌}
 use mathlib.Core.Path.{◌≡◌}
-use native.Mathlib.Omega.{arith}
-use lib.ListN.{length, length-set, drop}
+use lib.ListN.{length, drop}
 use lib.Seq.{sets}
 use Rattle.lent.specs.Lent.{characters, unpacked}
-use Rattle.lent.proofs.Laws.{unpack_start, unpack_turn, unpack_end}
-use borrow.Author.Rules.{rules}
 use Rattle.lent.proofs.unpack.Given as goal
 
 abbrev pub invariant-loop-i : goal.invariant-loop-i

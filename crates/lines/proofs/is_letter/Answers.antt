@@ -1,4 +1,3 @@
-use borrow.Author.Rules.{rules}
 use Rattle.lines.proofs.Laws.{letters_alike}
 use Rattle.lines.proofs.is_letter.Goals as goal
 

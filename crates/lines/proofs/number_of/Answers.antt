@@ -1,8 +1,4 @@
-use Prim.Native.Nat.{◌≤◌, ◌-◌}
-use mathlib.Core.Path.{◌≡◌}
-use lib.ListN.{length, drop}
 use borrow.Author.Rules.{rules}
-use Rattle.lines.specs.Lines.{digits_after, number}
 use Rattle.lines.proofs.Laws.{number_none, number_start, number_below, number_above, number_past, number_turn, number_end}
 use Rattle.lines.proofs.number_of.Goals as goal
 

@@ -1,8 +1,5 @@
-use Prim.Native.Nat.{◌≤◌, ◌+◌, ◌-◌}
-use mathlib.Core.Path.{◌≡◌}
-use lib.ListN.{length, drop}
 use borrow.Author.Rules.{rules}
-use Rattle.lines.specs.Lines.{letter, first}
+use Rattle.lines.specs.Lines.{letter}
 use Rattle.lines.proofs.Laws.{first_turn, first_stop, first_end, is_letter, no_letter}
 use Rattle.lines.proofs.past_letters.Goals as goal
 

@@ -1,9 +1,7 @@
 use Prim.Native.Nat.{◌≤◌, ◌+◌, ◌-◌}
 use mathlib.Core.Path.{◌≡◌}
 use lib.ListN.{length, drop}
-use borrow.Author.Rules.{rules}
 use Rattle.lines.specs.Lines.{other, first}
-use Rattle.lines.proofs.Laws.{first_turn, first_stop, first_end, is_other, no_other}
 use Rattle.lines.proofs.place_of.Given as goal
 
 abbrev pub invariant-loop-i : goal.invariant-loop-i

@@ -1,4 +1,3 @@
-use borrow.Author.Rules.{rules}
 use Rattle.lines.proofs.Laws.{below_small, above_small, small}
 use Rattle.lines.proofs.upper_case.Goals as goal
 

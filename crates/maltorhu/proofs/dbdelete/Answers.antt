@@ -1,5 +1,4 @@
 use Rattle.maltorhu.proofs.Laws.{both_right, status_wrong, cursors_wrong, delete_code, delete_area, delete_cursors, delete_status, no_delete_code, no_delete_area, no_delete_cursors, no_delete_status}
-use borrow.Author.Rules.{rules}
 use Rattle.maltorhu.proofs.dbdelete.Goals as goal
 
 pub returns-then-status-eq10-clause-code : goal.returns-then-status-eq10-clause-code

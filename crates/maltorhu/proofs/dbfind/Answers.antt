@@ -1,5 +1,4 @@
 use Rattle.maltorhu.proofs.Laws.{both_right, status_wrong, cursors_wrong, find_code, find_cursors, find_status, no_find_code, no_find_cursors, no_find_status}
-use borrow.Author.Rules.{rules}
 use Rattle.maltorhu.proofs.dbfind.Goals as goal
 
 pub returns-then-status-eq10-clause-code : goal.returns-then-status-eq10-clause-code

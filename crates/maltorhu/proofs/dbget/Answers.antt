@@ -1,5 +1,4 @@
 use Rattle.maltorhu.proofs.Laws.{both_right, status_wrong, cursors_wrong, get_code, get_cursors, get_buffer, get_status, no_get_code, no_get_cursors, no_get_buffer, no_get_status}
-use borrow.Author.Rules.{rules}
 use Rattle.maltorhu.proofs.dbget.Goals as goal
 
 pub returns-then-status-eq10-clause-code : goal.returns-then-status-eq10-clause-code

@@ -1,5 +1,4 @@
 use Rattle.maltorhu.proofs.Laws.{make_code, make_area, make_status, no_make_code, no_make_area, no_make_status}
-use borrow.Author.Rules.{rules}
 use Rattle.maltorhu.proofs.dbmake.Goals as goal
 
 pub returns-then-status-eq10-clause-code : goal.returns-then-status-eq10-clause-code

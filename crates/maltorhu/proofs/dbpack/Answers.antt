@@ -1,5 +1,4 @@
 use Rattle.maltorhu.proofs.Laws.{pack_code, pack_result, no_pack_code, no_pack_result}
-use borrow.Author.Rules.{rules}
 use Rattle.maltorhu.proofs.dbpack.Goals as goal
 
 pub returns-then-words-lt2305843009213693952-clause-code : goal.returns-then-words-lt2305843009213693952-clause-code

@@ -1,5 +1,4 @@
 use Rattle.maltorhu.proofs.Laws.{all_right, passed_wrong, one_wrong, status_wrong, cursors_wrong, put_code, put_area, put_cursors, put_status, put_passed, no_put_code, no_put_area, no_put_cursors, no_put_status, no_put_passed}
-use borrow.Author.Rules.{rules}
 use Rattle.maltorhu.proofs.dbput.Goals as goal
 
 pub returns-then-passed-eq4-clause-code : goal.returns-then-passed-eq4-clause-code

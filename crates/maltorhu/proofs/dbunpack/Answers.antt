@@ -1,5 +1,4 @@
 use Rattle.maltorhu.proofs.Laws.{unpack_code, unpack_result, no_unpack_code, no_unpack_result}
-use borrow.Author.Rules.{rules}
 use Rattle.maltorhu.proofs.dbunpack.Goals as goal
 
 pub returns-then-words-text-clause-code : goal.returns-then-words-text-clause-code

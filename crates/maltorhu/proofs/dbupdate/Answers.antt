@@ -1,5 +1,4 @@
 use Rattle.maltorhu.proofs.Laws.{both_right, status_wrong, cursors_wrong, update_code, update_area, update_cursors, update_status, no_update_code, no_update_area, no_update_cursors, no_update_status}
-use borrow.Author.Rules.{rules}
 use Rattle.maltorhu.proofs.dbupdate.Goals as goal
 
 pub returns-then-status-eq10-clause-code : goal.returns-then-status-eq10-clause-code

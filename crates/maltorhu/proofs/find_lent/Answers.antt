@@ -1,4 +1,3 @@
-use borrow.Author.Rules.{rules}
 use Rattle.maltorhu.proofs.find_lent.Goals as goal
 
 pub returns-clause-cursors : goal.returns-clause-cursors

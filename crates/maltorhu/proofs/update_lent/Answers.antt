@@ -1,4 +1,3 @@
-use borrow.Author.Rules.{rules}
 use Rattle.maltorhu.proofs.update_lent.Goals as goal
 
 pub returns-clause-area : goal.returns-clause-area

@@ -1,6 +1,5 @@
 use Rattle.master_put.specs.PutLaws.{put_low}
 use Rattle.master_calls.proofs.Laws.{enter_refused, enter_done, unput_outcome}
-use borrow.Author.Rules.{rules}
 use Rattle.master_calls.proofs.enter_master.Goals as goal
 
 pub tell-requires : goal.tell-requires

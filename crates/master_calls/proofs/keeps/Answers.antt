@@ -1,5 +1,4 @@
 use Rattle.master_calls.proofs.Laws.{keeps_is}
-use borrow.Author.Rules.{rules}
 use Rattle.master_calls.proofs.keeps.Goals as goal
 
 pub returns : goal.returns

@@ -1,5 +1,4 @@
 use Rattle.master_calls.proofs.Laws.{put_auto, put_long, put_goes}
-use borrow.Author.Rules.{rules}
 use Rattle.master_calls.proofs.put_master.Goals as goal
 
 pub returns-then-m-clause-is : goal.returns-then-m-clause-is

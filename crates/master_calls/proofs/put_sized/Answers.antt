@@ -1,5 +1,4 @@
 use Rattle.master_calls.proofs.Laws.{put_present, put_lost, put_entered}
-use borrow.Author.Rules.{rules}
 use Rattle.master_calls.proofs.put_sized.Goals as goal
 
 pub returns-then-k-ne0-clause-is : goal.returns-then-k-ne0-clause-is

@@ -1,6 +1,5 @@
 use Rattle.master_put.specs.PutLaws.{unwritten}
 use Rattle.master_calls.proofs.Laws.{dropped_done, dropped_lost}
-use borrow.Author.Rules.{rules}
 use Rattle.master_calls.proofs.remove.Goals as goal
 
 pub returns-then-w-clause-is : goal.returns-then-w-clause-is

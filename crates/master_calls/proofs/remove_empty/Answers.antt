@@ -1,5 +1,4 @@
 use Rattle.master_calls.proofs.Laws.{emptied_torn, emptied_some, emptied_none}
-use borrow.Author.Rules.{rules}
 use Rattle.master_calls.proofs.remove_empty.Goals as goal
 
 pub returns-in-Broken-clause-is : goal.returns-in-Broken-clause-is

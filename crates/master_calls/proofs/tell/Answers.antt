@@ -1,5 +1,4 @@
 use Rattle.master_calls.proofs.Laws.{told_is}
-use borrow.Author.Rules.{rules}
 use Rattle.master_calls.proofs.tell.Goals as goal
 
 pub returns : goal.returns

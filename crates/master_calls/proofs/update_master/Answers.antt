@@ -1,5 +1,4 @@
 use Rattle.master_calls.proofs.Laws.{update_auto, update_long, update_none, update_changes, update_done, current_low, length_fits}
-use borrow.Author.Rules.{rules}
 use Rattle.master_calls.proofs.update_master.Goals as goal
 
 pub returns-then-m-clause-is : goal.returns-then-m-clause-is

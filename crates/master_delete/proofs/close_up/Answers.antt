@@ -1,6 +1,5 @@
 use Rattle.journal.specs.BackLaws.{back_two}
 use Rattle.master_delete.proofs.Laws.{close_up_is}
-use borrow.Author.Rules.{rules}
 use Rattle.master_delete.proofs.close_up.Goals as goal
 
 pub returns-clause-is : goal.returns-clause-is

@@ -1,5 +1,4 @@
 use Rattle.master_delete.proofs.Laws.{cut_is, cut_back}
-use borrow.Author.Rules.{rules}
 use Rattle.master_delete.proofs.cut.Goals as goal
 
 pub returns-clause-is : goal.returns-clause-is

@@ -1,6 +1,5 @@
 use Rattle.journal.specs.BackLaws.{back_none}
 use Rattle.master_delete.proofs.Laws.{last_mended, last_kept}
-use borrow.Author.Rules.{rules}
 use Rattle.master_delete.proofs.new_last.Goals as goal
 
 pub returns-then-y-eq0-clause-is : goal.returns-then-y-eq0-clause-is

@@ -1,5 +1,4 @@
 use Rattle.master_delete.proofs.Laws.{promote_is, promote_back}
-use borrow.Author.Rules.{rules}
 use Rattle.master_delete.proofs.promote.Goals as goal
 
 pub returns-clause-is : goal.returns-clause-is

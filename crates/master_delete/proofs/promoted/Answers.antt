@@ -1,5 +1,4 @@
 use Rattle.master_delete.proofs.Laws.{promoted_is}
-use borrow.Author.Rules.{rules}
 use Rattle.master_delete.proofs.promoted.Goals as goal
 
 pub returns : goal.returns

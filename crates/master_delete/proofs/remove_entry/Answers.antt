@@ -1,6 +1,5 @@
 use Rattle.journal.specs.BackLaws.{back_none}
 use Rattle.master_delete.proofs.Laws.{entry_torn, secondary_removed, primary_removed, unlinked_back}
-use borrow.Author.Rules.{rules}
 use Rattle.master_delete.proofs.remove_entry.Goals as goal
 
 pub returns-then-y-eq0-clause-is : goal.returns-then-y-eq0-clause-is

@@ -1,5 +1,4 @@
 use Rattle.master_delete.proofs.Laws.{gone_is, replaced_is, gone_back, replaced_back}
-use borrow.Author.Rules.{rules}
 use Rattle.master_delete.proofs.remove_primary.Goals as goal
 
 pub returns-then-y-eq0-clause-is : goal.returns-then-y-eq0-clause-is

@@ -1,6 +1,5 @@
 use Rattle.journal.specs.BackLaws.{back_none}
 use Rattle.master_delete.proofs.Laws.{first_lost, first_torn, next_lost, succeeded_is}
-use borrow.Author.Rules.{rules}
 use Rattle.master_delete.proofs.succeed.Goals as goal
 
 pub returns-then-follow-clause-is : goal.returns-then-follow-clause-is

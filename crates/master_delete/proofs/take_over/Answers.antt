@@ -1,5 +1,4 @@
 use Rattle.master_delete.proofs.Laws.{taken_over, over_back}
-use borrow.Author.Rules.{rules}
 use Rattle.master_delete.proofs.take_over.Goals as goal
 
 pub returns-clause-is : goal.returns-clause-is

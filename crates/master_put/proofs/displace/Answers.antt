@@ -1,7 +1,6 @@
 use Rattle.journal.specs.BackLaws.{back_then}
 use Rattle.master_put.specs.PutLaws.{unwritten}
 use Rattle.master_put.proofs.Laws.{displace_is, displace_lost, back_first}
-use borrow.Author.Rules.{rules}
 use Rattle.master_put.proofs.displace.Goals as goal
 
 pub returns-then-w-clause-is : goal.returns-then-w-clause-is

@@ -1,5 +1,4 @@
 use Rattle.master_put.proofs.Laws.{fill_is, fill_back}
-use borrow.Author.Rules.{rules}
 use Rattle.master_put.proofs.fill.Goals as goal
 
 pub returns-clause-is : goal.returns-clause-is

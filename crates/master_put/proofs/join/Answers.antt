@@ -1,6 +1,5 @@
 use Rattle.journal.specs.BackLaws.{back_none}
 use Rattle.master_put.proofs.Laws.{join_is, join_lost, join_back}
-use borrow.Author.Rules.{rules}
 use Rattle.master_put.proofs.join.Goals as goal
 
 pub returns-then-follow-clause-is : goal.returns-then-follow-clause-is

@@ -1,6 +1,5 @@
 use Rattle.journal.specs.BackLaws.{back_three}
 use Rattle.master_put.proofs.Laws.{lengthen_is}
-use borrow.Author.Rules.{rules}
 use Rattle.master_put.proofs.lengthen.Goals as goal
 
 pub returns-clause-is : goal.returns-clause-is

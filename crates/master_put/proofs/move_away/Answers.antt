@@ -1,6 +1,5 @@
 use Rattle.journal.specs.BackLaws.{back_none}
 use Rattle.master_put.proofs.Laws.{behind_lost, ahead_lost, unnamed, moved_is}
-use borrow.Author.Rules.{rules}
 use Rattle.master_put.proofs.move_away.Goals as goal
 
 pub returns-in-Good-clause-is : goal.returns-in-Good-clause-is

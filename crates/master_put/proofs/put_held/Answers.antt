@@ -1,6 +1,5 @@
 use Rattle.journal.specs.BackLaws.{back_none}
 use Rattle.master_put.proofs.Laws.{held_full, held_displaced, held_joined, displaced_back, joined_back}
-use borrow.Author.Rules.{rules}
 use Rattle.master_put.proofs.put_held.Goals as goal
 
 pub returns-then-f-eq0-clause-is : goal.returns-then-f-eq0-clause-is

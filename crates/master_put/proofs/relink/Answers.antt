@@ -1,5 +1,4 @@
 use Rattle.master_put.proofs.Laws.{relink_is, relink_back}
-use borrow.Author.Rules.{rules}
 use Rattle.master_put.proofs.relink.Goals as goal
 
 pub returns-clause-is : goal.returns-clause-is

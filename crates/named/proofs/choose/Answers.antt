@@ -1,5 +1,4 @@
 use Rattle.named.proofs.Laws.{choose_kept, choose_not}
-use borrow.Author.Rules.{rules}
 use Rattle.named.proofs.choose.Goals as goal
 
 pub returns-then-cursor_fits-clause-naming : goal.returns-then-cursor_fits-clause-naming

@@ -1,5 +1,4 @@
 use Rattle.named.proofs.Laws.{current_live, current_none, current_unused}
-use borrow.Author.Rules.{rules}
 use Rattle.named.proofs.current_record.Goals as goal
 
 pub returns-then-c-eq0 : goal.returns-then-c-eq0

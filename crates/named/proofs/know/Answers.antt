@@ -1,4 +1,3 @@
-use borrow.Author.Rules.{rules}
 use Rattle.named.proofs.Laws.{know_is}
 use Rattle.named.proofs.know.Goals as goal
 

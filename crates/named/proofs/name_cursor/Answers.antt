@@ -1,6 +1,5 @@
 use Rattle.named.proofs.Laws.{chose_detail, chose_master, chose_none}
 use Rattle.named.specs.NamedLaws.{master_low, master_high, detail_low, detail_high}
-use borrow.Author.Rules.{rules}
 use Rattle.named.proofs.name_cursor.Goals as goal
 
 pub choose-requires : goal.choose-requires

@@ -1,5 +1,4 @@
 use Rattle.named.proofs.Laws.{name_known, name_unknown}
-use borrow.Author.Rules.{rules}
 use Rattle.named.proofs.name_set.Goals as goal
 
 pub returns-in-Yes : goal.returns-in-Yes

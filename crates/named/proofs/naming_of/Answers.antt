@@ -1,5 +1,4 @@
 use Rattle.named.proofs.Laws.{set_above, set_detail, set_master, set_zero}
-use borrow.Author.Rules.{rules}
 use Rattle.named.proofs.naming_of.Goals as goal
 
 pub returns-then-set-eq0 : goal.returns-then-set-eq0

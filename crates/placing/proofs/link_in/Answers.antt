@@ -1,6 +1,5 @@
-use Rattle.journal.specs.BackLaws.{back_none, back_two, back_three}
+use Rattle.journal.specs.BackLaws.{back_three}
 use Rattle.placing.proofs.Laws.{link_in_is}
-use borrow.Author.Rules.{rules}
 use Rattle.placing.proofs.link_in.Goals as goal
 
 pub returns-clause-is : goal.returns-clause-is

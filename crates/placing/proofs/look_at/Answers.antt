@@ -1,5 +1,4 @@
 use Rattle.placing.proofs.Laws.{look_pass, look_split, look_stop, look_lost}
-use borrow.Author.Rules.{rules}
 use Rattle.placing.proofs.look_at.Goals as goal
 
 pub returns-in-Whole : goal.returns-in-Whole

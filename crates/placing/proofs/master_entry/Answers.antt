@@ -1,7 +1,6 @@
 use Rattle.placing.proofs.Laws.{found_low}
-use Rattle.journal.specs.BackLaws.{back_none, back_two}
+use Rattle.journal.specs.BackLaws.{back_none}
 use Rattle.placing.proofs.Laws.{entry_absent, entry_there, entry_lost}
-use borrow.Author.Rules.{rules}
 use Rattle.placing.proofs.master_entry.Goals as goal
 
 pub returns-then-k-eq0-clause-is : goal.returns-then-k-eq0-clause-is

@@ -1,7 +1,6 @@
 use Rattle.placing.proofs.Laws.{put_record_low}
-use Rattle.journal.specs.BackLaws.{back_none, back_two}
+use Rattle.journal.specs.BackLaws.{back_none}
 use Rattle.placing.proofs.Laws.{missing_auto, missing_manual, auto_back}
-use borrow.Author.Rules.{rules}
 use Rattle.placing.proofs.missing.Goals as goal
 
 pub returns-then-p-clause-is : goal.returns-then-p-clause-is

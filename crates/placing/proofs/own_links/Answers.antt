@@ -1,6 +1,5 @@
-use Rattle.journal.specs.BackLaws.{back_none, back_two}
+use Rattle.journal.specs.BackLaws.{back_two}
 use Rattle.placing.proofs.Laws.{own_is}
-use borrow.Author.Rules.{rules}
 use Rattle.placing.proofs.own_links.Goals as goal
 
 pub returns-clause-is : goal.returns-clause-is

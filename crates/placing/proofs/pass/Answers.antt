@@ -1,7 +1,5 @@
 use borrow.Author.Rules.{rules}
-use Prim.Native.Nat.{◌≤◌, ◌-◌}
-use mathlib.Core.Path.{◌≡◌}
-use Rattle.placing.proofs.Laws.{Walk, WholeWalk, walk_start, walk_long, walk_stop, walk_broken, walk_pass, walk_end}
+use Rattle.placing.proofs.Laws.{walk_start, walk_long, walk_stop, walk_broken, walk_pass, walk_end}
 use Rattle.placing.proofs.pass.Goals as goal
 
 pub loop-behind-init : goal.loop-behind-init

@@ -1,5 +1,4 @@
-use Rattle.journal.specs.BackLaws.{back_none}
-use Rattle.placing.proofs.Laws.{key_fits, key_short, entry_low, turn_placed, room_turn, turn_refused, room_refused}
+use Rattle.placing.proofs.Laws.{key_fits, entry_low, turn_placed, room_turn, turn_refused, room_refused}
 use borrow.Author.Rules.{rules}
 use Rattle.placing.proofs.put_path.Goals as goal
 

@@ -1,6 +1,5 @@
-use Rattle.journal.specs.BackLaws.{back_none, back_two, back_three}
+use Rattle.journal.specs.BackLaws.{back_none}
 use Rattle.placing.proofs.Laws.{end_none, end_stays}
-use borrow.Author.Rules.{rules}
 use Rattle.placing.proofs.set_end.Goals as goal
 
 pub returns-then-neighbour-eq0-clause-is : goal.returns-then-neighbour-eq0-clause-is

@@ -1,5 +1,4 @@
 use Rattle.placing.proofs.Laws.{spot_sorted, spot_end, spot_lost}
-use borrow.Author.Rules.{rules}
 use Rattle.placing.proofs.spot_for.Goals as goal
 
 pub returns-then-p : goal.returns-then-p

@@ -1,5 +1,4 @@
 use Rattle.placing.proofs.Laws.{above_full, above_live, above_good}
-use borrow.Author.Rules.{rules}
 use Rattle.placing.proofs.take_above.Goals as goal
 
 pub returns-then-s-high : goal.returns-then-s-high

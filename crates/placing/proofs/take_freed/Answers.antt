@@ -1,5 +1,4 @@
 use Rattle.placing.proofs.Laws.{freed_live, freed_good, freed_bad}
-use borrow.Author.Rules.{rules}
 use Rattle.placing.proofs.take_freed.Goals as goal
 
 pub returns-then-live : goal.returns-then-live

@@ -1,5 +1,4 @@
 use Rattle.placing.proofs.Laws.{mark_bad, first_bad, first_none, first_some}
-use borrow.Author.Rules.{rules}
 use Rattle.placing.proofs.take_record.Goals as goal
 
 pub returns-then-s-high : goal.returns-then-s-high

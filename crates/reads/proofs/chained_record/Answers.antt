@@ -1,5 +1,4 @@
 use Rattle.reads.proofs.Laws.{along_backward, along_forward}
-use borrow.Author.Rules.{rules}
 use Rattle.reads.proofs.chained_record.Goals as goal
 
 pub returns-in-Forward : goal.returns-in-Forward

@@ -1,5 +1,4 @@
 use Rattle.reads.proofs.GetLaws.{fits_so}
-use borrow.Author.Rules.{rules}
 use Rattle.reads.proofs.cursor_good.Goals as goal
 
 pub returns : goal.returns

@@ -1,5 +1,4 @@
 use Rattle.reads.proofs.Laws.{line_chain_short, line_chained, line_keyed, line_no_mode, line_no_path, line_numbered, line_short}
-use borrow.Author.Rules.{rules}
 use Rattle.reads.proofs.detail_record.Goals as goal
 
 pub returns-then-c-eq0 : goal.returns-then-c-eq0

@@ -1,4 +1,3 @@
-use borrow.Author.Rules.{rules}
 use mathlib.Core.Bool.{false≢true}
 use Rattle.reads.proofs.Laws.{empty_down}
 use Rattle.reads.proofs.empty_down.Goals as goal

@@ -1,5 +1,4 @@
 use Rattle.reads.proofs.GetLaws.{chain_found, chain_lost, chain_none, chain_torn}
-use borrow.Author.Rules.{rules}
 use Rattle.reads.proofs.find_chain.Goals as goal
 
 pub returns-then-k-eq0 : goal.returns-then-k-eq0

@@ -1,5 +1,4 @@
 use Rattle.reads.proofs.GetLaws.{path_found}
-use borrow.Author.Rules.{rules}
 use Rattle.reads.proofs.find_path.Goals as goal
 
 pub returns : goal.returns

@@ -1,6 +1,5 @@
 use Rattle.named.specs.NamedLaws.{detail_high, detail_low}
 use Rattle.reads.proofs.GetLaws.{find_bad, find_good, find_high, find_low, find_master, find_planned, find_refused, find_settable}
-use borrow.Author.Rules.{rules}
 use Rattle.reads.proofs.find_steps.Goals as goal
 
 pub cursor_good-requires : goal.cursor_good-requires

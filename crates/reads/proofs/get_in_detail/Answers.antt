@@ -1,5 +1,4 @@
 use Rattle.reads.proofs.GetLaws.{in_detail}
-use borrow.Author.Rules.{rules}
 use Rattle.reads.proofs.get_in_detail.Goals as goal
 
 pub returns-clause-is : goal.returns-clause-is

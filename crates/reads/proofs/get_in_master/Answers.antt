@@ -1,5 +1,4 @@
 use Rattle.reads.proofs.GetLaws.{in_master}
-use borrow.Author.Rules.{rules}
 use Rattle.reads.proofs.get_in_master.Goals as goal
 
 pub returns-clause-is : goal.returns-clause-is

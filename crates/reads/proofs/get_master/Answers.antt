@@ -1,6 +1,5 @@
 use Rattle.reads.proofs.Laws.{asked_low}
 use Rattle.reads.proofs.GetLaws.{master_got, master_refused, master_torn}
-use borrow.Author.Rules.{rules}
 use Rattle.reads.proofs.get_master.Goals as goal
 
 pub synonyms-requires : goal.synonyms-requires

@@ -1,6 +1,5 @@
 use Rattle.reads.proofs.GetLaws.{detail_settable, master_settable, steps_detail, steps_master, steps_refused}
 use Rattle.named.specs.NamedLaws.{chosen_detail_high, chosen_detail_low, chosen_detail_plan, chosen_master_high, chosen_master_kind, chosen_master_low, chosen_master_plan, chosen_path}
-use borrow.Author.Rules.{rules}
 use Rattle.reads.proofs.get_steps.Goals as goal
 
 pub get_in_master-requires-clause-planned : goal.get_in_master-requires-clause-planned

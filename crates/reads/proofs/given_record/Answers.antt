@@ -1,5 +1,4 @@
 use Rattle.reads.proofs.Laws.{given_live, given_past, given_unused, given_zero}
-use borrow.Author.Rules.{rules}
 use Rattle.reads.proofs.given_record.Goals as goal
 
 pub returns-then-r-eq0 : goal.returns-then-r-eq0

@@ -1,5 +1,4 @@
 use Rattle.reads.proofs.Laws.{keyed_found, keyed_lost}
-use borrow.Author.Rules.{rules}
 use Rattle.reads.proofs.keyed_record.Goals as goal
 
 pub returns-in-Broken : goal.returns-in-Broken

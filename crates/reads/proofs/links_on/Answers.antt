@@ -1,5 +1,4 @@
 use Rattle.reads.proofs.GetLaws.{links_none, links_some}
-use borrow.Author.Rules.{rules}
 use Rattle.reads.proofs.links_on.Goals as goal
 
 pub returns-then-path-eq0 : goal.returns-then-path-eq0

@@ -1,7 +1,4 @@
-use borrow.Author.Rules.{rules}
-use Prim.Native.Nat.{◌-◌}
-use mathlib.Core.Path.{◌≡◌, refl}
-use Rattle.spec.specs.Cursor.{live_above}
+use mathlib.Core.Path.{refl}
 use Rattle.reads.proofs.Laws.{above_word, above_found, above_pass, above_end}
 use Rattle.reads.proofs.live_above.Goals as goal
 

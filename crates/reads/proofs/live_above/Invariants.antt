@@ -1,8 +1,6 @@
-use borrow.Author.Rules.{rules}
 use Prim.Native.Nat.{◌-◌}
-use mathlib.Core.Path.{◌≡◌, refl}
+use mathlib.Core.Path.{◌≡◌}
 use Rattle.spec.specs.Cursor.{live_above}
-use Rattle.reads.proofs.Laws.{above_word, above_found, above_pass, above_end}
 use Rattle.reads.proofs.live_above.Given as goal
 
 abbrev pub invariant-loop-r : goal.invariant-loop-r

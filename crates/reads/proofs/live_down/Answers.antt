@@ -1,7 +1,4 @@
-use borrow.Author.Rules.{rules}
-use Prim.Native.Nat.{◌-◌}
-use mathlib.Core.Path.{◌≡◌, refl}
-use Rattle.spec.specs.Cursor.{live_down}
+use mathlib.Core.Path.{refl}
 use Rattle.reads.proofs.Laws.{down_word, down_found, down_pass, down_end}
 use Rattle.reads.proofs.live_down.Goals as goal
 

@@ -1,8 +1,5 @@
-use borrow.Author.Rules.{rules}
-use Prim.Native.Nat.{◌-◌}
-use mathlib.Core.Path.{◌≡◌, refl}
+use mathlib.Core.Path.{◌≡◌}
 use Rattle.spec.specs.Cursor.{live_down}
-use Rattle.reads.proofs.Laws.{down_word, down_found, down_pass, down_end}
 use Rattle.reads.proofs.live_down.Given as goal
 
 abbrev pub invariant-loop-r : goal.invariant-loop-r

@@ -1,5 +1,4 @@
 use Rattle.reads.proofs.Laws.{master_chained, master_key_short, master_keyed, master_long, master_no_mode, master_numbered, master_short}
-use borrow.Author.Rules.{rules}
 use Rattle.reads.proofs.master_record.Goals as goal
 
 pub returns-in-NoMode : goal.returns-in-NoMode

@@ -1,5 +1,4 @@
 use Rattle.reads.proofs.Laws.{number_above, number_below, number_current, number_given}
-use borrow.Author.Rules.{rules}
 use Rattle.reads.proofs.numbered_record.Goals as goal
 
 pub returns-in-Current : goal.returns-in-Current

@@ -1,5 +1,4 @@
 use Rattle.reads.proofs.Laws.{below_none, below_some}
-use borrow.Author.Rules.{rules}
 use Rattle.reads.proofs.record_below.Goals as goal
 
 pub returns-then-current-eq0 : goal.returns-then-current-eq0

@@ -1,5 +1,4 @@
 use Rattle.reads.proofs.Laws.{saved_live, saved_past, saved_unused, saved_zero}
-use borrow.Author.Rules.{rules}
 use Rattle.reads.proofs.saved_record.Goals as goal
 
 pub returns-then-r-eq0 : goal.returns-then-r-eq0

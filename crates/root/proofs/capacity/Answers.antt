@@ -1,4 +1,3 @@
-use borrow.Author.Rules.{rules}
 use Rattle.spec.specs.Root.{capacity}
 use Rattle.root.proofs.capacity.Goals as goal
 

@@ -1,4 +1,3 @@
-use borrow.Author.Rules.{rules}
 use Rattle.spec.specs.Root.{description}
 use Rattle.root.proofs.description.Goals as goal
 

@@ -1,4 +1,3 @@
-use borrow.Author.Rules.{rules}
 use Rattle.spec.specs.Root.{item_count}
 use Rattle.root.proofs.item_count.Goals as goal
 

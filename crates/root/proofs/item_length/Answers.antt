@@ -1,4 +1,3 @@
-use borrow.Author.Rules.{rules}
 use Rattle.spec.specs.Root.{item_length}
 use Rattle.root.proofs.item_length.Goals as goal
 

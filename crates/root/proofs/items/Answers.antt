@@ -1,4 +1,3 @@
-use borrow.Author.Rules.{rules}
 use Rattle.spec.specs.Root.{items}
 use Rattle.root.proofs.items.Goals as goal
 

@@ -1,4 +1,3 @@
-use borrow.Author.Rules.{rules}
 use Rattle.spec.specs.Root.{path_sort}
 use Rattle.root.proofs.path_sort.Goals as goal
 

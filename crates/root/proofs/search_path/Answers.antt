@@ -1,7 +1,4 @@
-use mathlib.Core.Path.{◌≡◌}
-use borrow.Author.Rules.{rules}
 use Rattle.spec.specs.Root.{search_path}
-use Rattle.spec.specs.Root.{path_search}
 use Rattle.root.specs.Ranges.{last_of}
 use Rattle.root.proofs.Loops.{last_hit, last_miss, last_none}
 use Rattle.root.proofs.search_path.Goals as goal

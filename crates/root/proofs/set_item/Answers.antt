@@ -1,4 +1,3 @@
-use borrow.Author.Rules.{rules}
 use Rattle.spec.specs.Root.{set_item}
 use Rattle.root.proofs.set_item.Goals as goal
 

@@ -1,4 +1,3 @@
-use borrow.Author.Rules.{rules}
 use Rattle.spec.specs.Root.{sets}
 use Rattle.root.proofs.sets.Goals as goal
 

@@ -1,8 +1,4 @@
-use Prim.Native.Nat.{◌≤◌, ◌-◌}
-use mathlib.Core.Path.{◌≡◌}
 use borrow.Author.Rules.{rules}
-use Rattle.spec.specs.Root.{items, item_good}
-use Rattle.spec.specs.Words.{all}
 use Rattle.rules.proofs.ItemRules.{every_start, every_turn, every_end}
 use Rattle.rules.proofs.all_items_good.Goals as goal
 

@@ -1,9 +1,4 @@
-use Prim.Native.Nat.{◌≤◌, ◌+◌, ◌-◌}
-use mathlib.Core.Bool.{true}
-use mathlib.Core.Path.{◌≡◌}
 use borrow.Author.Rules.{rules}
-use Rattle.spec.specs.Root.{sets, leading_good}
-use Rattle.spec.specs.Words.{all}
 use Rattle.root.proofs.Loops.{all_start, all_turn, all_stop_of, all_end_of}
 use Rattle.rules.proofs.SetRules.{lead_read}
 use Rattle.rules.proofs.all_leading_good.Goals as goal

@@ -1,4 +1,3 @@
-use borrow.Author.Rules.{rules}
 use Rattle.rules.proofs.ItemRules.{blank_first, blank_last}
 use Rattle.rules.proofs.blank.Goals as goal
 

@@ -1,4 +1,3 @@
-use borrow.Author.Rules.{rules}
 use Rattle.rules.proofs.PathRules.{to_low, to_place, to_fits, counted_turn}
 use Rattle.rules.proofs.counted.Goals as goal
 

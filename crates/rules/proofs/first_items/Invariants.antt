@@ -1,14 +1,10 @@
 use Prim.Native.Nat.{◌≤◌, ◌+◌, ◌*◌, ◌-◌}
 use mathlib.Core.Bool.{true}
 use mathlib.Core.Path.{◌≡◌}
-use borrow.Author.Rules.{rules}
 use Rattle.spec.specs.Root.{item_listed}
 use Rattle.spec.specs.Layout.{items_length}
 use Rattle.spec.specs.Words.{all}
-use Rattle.root.specs.Ranges.{not_so}
-use Rattle.root.proofs.Loops.{all_start, all_turn, all_stop, all_end}
 use Rattle.rules.specs.Rules.{Holds}
-use Rattle.rules.proofs.ItemRules.{there_low, there_high, there_few, holds_start, holds_turn, holds_end, length_start, length_fit, length_few, length_turn, length_end}
 use Rattle.rules.proofs.first_items.Given as goal
 
 abbrev pub invariant-loop-j : goal.invariant-loop-j

@@ -1,4 +1,3 @@
-use borrow.Author.Rules.{rules}
 use Rattle.rules.proofs.PathRules.{key_type, key_length}
 use Rattle.rules.proofs.fits_key.Goals as goal
 

@@ -1,4 +1,3 @@
-use borrow.Author.Rules.{rules}
 use Rattle.rules.specs.Rules.{framed}
 use Rattle.rules.proofs.ItemRules.{length_tested}
 use Rattle.rules.proofs.Ladder.{ladder}

@@ -1,4 +1,3 @@
-use borrow.Author.Rules.{rules}
 use Rattle.rules.proofs.RootRules.{framed_long, framed_items, head_unframed, head_framed}
 use Rattle.rules.proofs.head_good.Goals as goal
 

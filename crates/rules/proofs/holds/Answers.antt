@@ -1,4 +1,3 @@
-use borrow.Author.Rules.{rules}
 use Rattle.rules.specs.Rules.{held}
 use Rattle.rules.proofs.Ladder.{ladder}
 use Rattle.rules.proofs.holds.Goals as goal

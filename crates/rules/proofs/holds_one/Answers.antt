@@ -1,4 +1,3 @@
-use borrow.Author.Rules.{rules}
 use borrow.Author.Tests.{le-leb}
 use Rattle.rules.specs.Rules.{held}
 use Rattle.rules.proofs.Ladder.{ladder}

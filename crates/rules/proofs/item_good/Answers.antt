@@ -1,4 +1,3 @@
-use borrow.Author.Rules.{rules}
 use Rattle.rules.proofs.ItemRules.{item_none, item_some}
 use Rattle.rules.proofs.item_good.Goals as goal
 

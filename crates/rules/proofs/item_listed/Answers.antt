@@ -1,4 +1,3 @@
-use borrow.Author.Rules.{rules}
 use Rattle.rules.proofs.ItemRules.{listed_low, listed_high, listed_twice, listed_once}
 use Rattle.rules.proofs.item_listed.Goals as goal
 

@@ -1,4 +1,3 @@
-use borrow.Author.Rules.{rules}
 use Rattle.root.specs.Ranges.{not_so}
 use Rattle.rules.proofs.ItemRules.{holds_counted, length_counted}
 use Rattle.rules.proofs.ItemRules.{items_none, items_many, items_twice, items_rest}

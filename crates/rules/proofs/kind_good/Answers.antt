@@ -1,4 +1,3 @@
-use borrow.Author.Rules.{rules}
 use Rattle.rules.proofs.ItemRules.{detail_good, detail_key, kind_low, kind_high, master_good, master_paths}
 use Rattle.rules.proofs.kind_good.Goals as goal
 

@@ -1,4 +1,3 @@
-use borrow.Author.Rules.{rules}
 use Rattle.rules.proofs.SetRules.{leading_detail, leading_many, leading_manual, leading_alone, leading_more_items}
 use Rattle.rules.proofs.leading_good.Goals as goal
 

@@ -1,4 +1,3 @@
-use borrow.Author.Rules.{rules}
 use Rattle.rules.proofs.ItemRules.{longest_text, longest_low, longest_high, longest_number}
 use Rattle.rules.proofs.longest.Goals as goal
 

@@ -1,4 +1,3 @@
-use borrow.Author.Rules.{rules}
 use Rattle.rules.proofs.PathRules.{names_low, names_high, names_no_kind, names_rest}
 use Rattle.rules.proofs.names_master.Goals as goal
 

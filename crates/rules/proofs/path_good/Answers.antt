@@ -1,4 +1,3 @@
-use borrow.Author.Rules.{rules}
 use Rattle.rules.proofs.PathRules.{spare_exists, names_one, names_top, path_no_master, path_no_search, path_no_fit, path_rest}
 use Rattle.rules.proofs.path_good.Goals as goal
 

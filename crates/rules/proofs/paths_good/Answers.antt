@@ -1,12 +1,6 @@
-use Prim.Native.Nat.{◌≤◌, ◌+◌, ◌-◌}
-use mathlib.Core.Bool.{true}
-use mathlib.Core.Path.{◌≡◌}
 use borrow.Author.Rules.{rules}
-use Rattle.spec.specs.Root.{path_count, path_good}
-use Rattle.spec.specs.Words.{all}
 use Rattle.root.specs.Ranges.{not_so}
 use Rattle.root.proofs.Loops.{all_start, all_turn, all_stop_of, all_end_of}
-use Rattle.rules.specs.Rules.{Spare, Counted}
 use Rattle.rules.proofs.SetRules.{counted_next, counted_end}
 use Rattle.rules.proofs.PathRules.{spare_start, spare_next}
 use Rattle.rules.proofs.Ladder.{told}

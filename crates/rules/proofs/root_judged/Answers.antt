@@ -1,4 +1,3 @@
-use borrow.Author.Rules.{rules}
 use Rattle.root.specs.Ranges.{not_so}
 use Rattle.rules.proofs.RootRules.{head_bad, head_long, head_all, head_items, head_sets, sets_bad, root_rest}
 use Rattle.rules.proofs.SetRules.{leads_told, slots_told, entries_told}

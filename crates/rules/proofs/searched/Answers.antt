@@ -1,4 +1,3 @@
-use borrow.Author.Rules.{rules}
 use Rattle.rules.proofs.PathRules.{spare_low, spare_high, spare_turn}
 use Rattle.rules.proofs.searched.Goals as goal
 

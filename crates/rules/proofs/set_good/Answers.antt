@@ -1,4 +1,3 @@
-use borrow.Author.Rules.{rules}
 use Rattle.root.specs.Ranges.{not_so}
 use Rattle.rules.proofs.ItemRules.{holds_told, length_told, capacity_none, capacity_high, set_broken, set_rest}
 use Rattle.rules.proofs.set_good.Goals as goal

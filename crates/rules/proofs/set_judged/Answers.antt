@@ -1,4 +1,3 @@
-use borrow.Author.Rules.{rules}
 use Rattle.root.specs.Ranges.{not_so}
 use Rattle.rules.proofs.SetRules.{few_paths, set_bad, paths_bad, paths_rest, counted_set, entries_turn}
 use Rattle.rules.proofs.ItemRules.{holds_told}

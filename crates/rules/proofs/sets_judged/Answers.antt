@@ -1,14 +1,7 @@
-use Prim.Native.Nat.{◌≤◌, ◌+◌, ◌-◌}
-use mathlib.Core.Bool.{true}
-use mathlib.Core.Path.{◌≡◌}
 use borrow.Author.Rules.{rules}
-use Rattle.spec.specs.Root.{sets}
-use Rattle.spec.specs.Words.{all}
-use Rattle.spec.specs.Layout.{entry_length}
-use Rattle.root.specs.Plan.{Filled, filled_start, filled_told}
+use Rattle.root.specs.Plan.{filled_start, filled_told}
 use Rattle.root.specs.Ranges.{not_so}
 use Rattle.root.proofs.Loops.{all_start, all_turn, all_stop_of, all_end_of}
-use Rattle.rules.specs.Rules.{set_judged, Counted}
 use Rattle.rules.proofs.SetRules.{counted_start, counted_told, leads_whole, slots_whole, entries_whole}
 use Rattle.rules.proofs.sets_judged.Goals as goal
 

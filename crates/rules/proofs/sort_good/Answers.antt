@@ -1,4 +1,3 @@
-use borrow.Author.Rules.{rules}
 use Rattle.rules.proofs.PathRules.{held_exists, sort_none, sort_searched, sort_absent, sort_rest}
 use Rattle.rules.proofs.sort_good.Goals as goal
 

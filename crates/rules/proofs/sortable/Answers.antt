@@ -1,4 +1,3 @@
-use borrow.Author.Rules.{rules}
 use Rattle.rules.proofs.PathRules.{sort_unsigned, sort_text}
 use Rattle.rules.proofs.sortable.Goals as goal
 

@@ -1,9 +1,4 @@
-use Prim.Native.Nat.{◌≤◌, ◌-◌}
-use mathlib.Core.Path.{◌≡◌}
-use lib.Dec.{eqb}
 use borrow.Author.Rules.{rules}
-use Rattle.spec.specs.Words.{all}
-use Rattle.rules.specs.Rules.{unused}
 use Rattle.rules.proofs.ItemRules.{zeros_start, zeros_turn, zeros_end}
 use Rattle.rules.proofs.zeros.Goals as goal
 

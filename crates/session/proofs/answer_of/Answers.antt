@@ -1,5 +1,4 @@
 use Rattle.session.proofs.Laws.{done_low, done_high, done_status, done_cursors, done_passed, refused_status_is, refused_cursors, refused_passed}
-use borrow.Author.Rules.{rules}
 use Rattle.session.proofs.answer_of.Goals as goal
 
 pub with_cursor-t-requires : goal.with_cursor-t-requires

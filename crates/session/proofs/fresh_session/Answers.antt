@@ -1,7 +1,6 @@
 use mathlib.Core.Path.{ap}
 use lib.ListN.{replicate}
 use Rattle.spec.specs.declared.Cursor.{Cursor}
-use borrow.Author.Rules.{rules}
 use Rattle.session.proofs.fresh_session.Goals as goal
 
 pub returns : goal.returns

@@ -5,7 +5,6 @@ use lib.ListN.{replicate}
 use mir.Syntax.{w16}
 use mir.Facts.{to_z-of_z}
 use Rattle.spec.specs.Outcome.{twos, refused_words}
-use borrow.Author.Rules.{rules}
 use Rattle.session.proofs.refused_status.Goals as goal
 
 pub returns : goal.returns

@@ -1,5 +1,4 @@
 use Rattle.session.proofs.Laws.{status_is}
-use borrow.Author.Rules.{rules}
 use Rattle.session.proofs.status_of.Goals as goal
 
 pub returns : goal.returns

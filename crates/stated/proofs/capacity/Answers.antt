@@ -1,4 +1,3 @@
-use borrow.Author.Rules.{rules}
 use Rattle.spec.specs.Root.{capacity}
 use Rattle.stated.proofs.capacity.Goals as goal
 

@@ -1,4 +1,3 @@
-use borrow.Author.Rules.{rules}
 use Rattle.spec.specs.Root.{description}
 use Rattle.stated.proofs.Inside.{set_inside}
 use Rattle.stated.proofs.description.Goals as goal

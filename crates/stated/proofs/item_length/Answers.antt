@@ -1,4 +1,3 @@
-use borrow.Author.Rules.{rules}
 use Rattle.spec.specs.Root.{item_length}
 use Rattle.stated.proofs.Inside.{length_inside}
 use Rattle.stated.proofs.item_length.Goals as goal

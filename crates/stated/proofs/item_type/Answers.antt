@@ -1,4 +1,3 @@
-use borrow.Author.Rules.{rules}
 use Rattle.spec.specs.Root.{item_type}
 use Rattle.stated.proofs.Inside.{type_inside}
 use Rattle.stated.proofs.item_type.Goals as goal

@@ -1,4 +1,3 @@
-use borrow.Author.Rules.{rules}
 use Rattle.spec.specs.Root.{items}
 use Rattle.stated.proofs.Inside.{items_inside}
 use Rattle.stated.proofs.items.Goals as goal

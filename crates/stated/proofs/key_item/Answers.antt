@@ -1,4 +1,3 @@
-use borrow.Author.Rules.{rules}
 use Rattle.spec.specs.Root.{key_item}
 use Rattle.stated.proofs.key_item.Goals as goal
 

@@ -1,4 +1,3 @@
-use borrow.Author.Rules.{rules}
 use Rattle.spec.specs.Root.{kind}
 use Rattle.stated.proofs.kind.Goals as goal
 

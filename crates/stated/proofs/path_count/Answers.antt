@@ -1,4 +1,3 @@
-use borrow.Author.Rules.{rules}
 use Rattle.spec.specs.Root.{path_count}
 use Rattle.stated.proofs.path_count.Goals as goal
 

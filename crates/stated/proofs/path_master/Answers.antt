@@ -1,4 +1,3 @@
-use borrow.Author.Rules.{rules}
 use Rattle.spec.specs.Root.{path_master}
 use Rattle.stated.proofs.path_master.Goals as goal
 

@@ -1,4 +1,3 @@
-use borrow.Author.Rules.{rules}
 use Rattle.spec.specs.Root.{path_search}
 use Rattle.stated.proofs.path_search.Goals as goal
 

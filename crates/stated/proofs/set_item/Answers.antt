@@ -1,4 +1,3 @@
-use borrow.Author.Rules.{rules}
 use Rattle.spec.specs.Root.{set_item}
 use Rattle.stated.proofs.set_item.Goals as goal
 

@@ -1,4 +1,3 @@
-use borrow.Author.Rules.{rules}
 use Rattle.spec.specs.Root.{sets}
 use Rattle.stated.proofs.Inside.{sets_inside}
 use Rattle.stated.proofs.sets.Goals as goal

@@ -1,5 +1,4 @@
 use Rattle.spec.specs.Area.{without_bit}
-use borrow.Author.Rules.{rules}
 use Rattle.words.proofs.bit_off.Goals as goal
 
 pub returns : goal.returns

@@ -1,6 +1,5 @@
 use Rattle.spec.specs.Area.{bit_of}
 use mathlib.Core.Path.{refl}
-use borrow.Author.Rules.{rules}
 use Rattle.words.proofs.bit_set.Goals as goal
 
 pub returns : goal.returns

@@ -2,7 +2,6 @@ use mathlib.Core.Path.{sym, ap, ◌∙◌}
 use mir.Syntax.{w16}
 use mir.Facts.{to_z-of_z}
 use Rattle.spec.specs.Outcome.{number}
-use borrow.Author.Rules.{rules}
 use Rattle.words.proofs.condition.Goals as goal
 
 pub returns-in-BadRoot : goal.returns-in-BadRoot

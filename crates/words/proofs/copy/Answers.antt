@@ -1,6 +1,3 @@
-use Prim.Native.Nat.{◌≤◌, ◌-◌}
-use mathlib.Core.Path.{◌≡◌}
-use lib.ListN.{length, take}
 use Rattle.words.proofs.Laws.{copy_turn, copy_end}
 use borrow.Author.Rules.{rules}
 use Rattle.words.proofs.copy.Goals as goal

@@ -1,7 +1,3 @@
-use Prim.Native.Nat.{◌≤◌, ◌-◌}
-use mathlib.Core.Path.{◌≡◌}
-use lib.ListN.{length, drop}
-use Rattle.spec.specs.Words.{greater}
 use Rattle.words.proofs.Laws.{greater_short, greater_above, greater_below, greater_turn, greater_end}
 use borrow.Author.Rules.{rules}
 use Rattle.words.proofs.greater.Goals as goal

@@ -1,5 +1,4 @@
 use Rattle.words.proofs.Laws.{laid_in, laid_cut, laid_none}
-use borrow.Author.Rules.{rules}
 use Rattle.words.proofs.lay.Goals as goal
 
 pub returns-then-n-room : goal.returns-then-n-room

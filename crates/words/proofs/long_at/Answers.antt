@@ -1,5 +1,4 @@
 use Rattle.spec.specs.Words.{long}
-use borrow.Author.Rules.{rules}
 use Rattle.words.proofs.long_at.Goals as goal
 
 pub returns : goal.returns

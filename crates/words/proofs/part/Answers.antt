@@ -1,5 +1,4 @@
 use Rattle.words.proofs.Laws.{part_in, part_tail, part_none}
-use borrow.Author.Rules.{rules}
 use Rattle.words.proofs.part.Goals as goal
 
 pub returns-then-n-s : goal.returns-then-n-s

@@ -1,6 +1,5 @@
 use mathlib.Core.Path.{sym}
 use lib.Seq.{set_out}
-use borrow.Author.Rules.{rules}
 use Rattle.words.proofs.put_word.Goals as goal
 
 pub returns-else-i-a : goal.returns-else-i-a

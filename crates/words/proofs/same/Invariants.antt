@@ -2,8 +2,6 @@ use Prim.Native.Nat.{◌≤◌, ◌-◌}
 use mathlib.Core.Path.{◌≡◌}
 use lib.ListN.{length, drop}
 use Rattle.spec.specs.Words.{same}
-use Rattle.words.proofs.Laws.{same_lengths, same_stop, same_turn, same_end}
-use borrow.Author.Rules.{rules}
 use Rattle.words.proofs.same.Given as goal
 
 abbrev pub invariant-loop-i : goal.invariant-loop-i
