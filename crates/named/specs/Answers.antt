@@ -16,11 +16,11 @@ use Rattle.named.specs.declared.Knowing.TheVariants.{Yes, Refused as Unknown}
 use Rattle.named.specs.declared.Naming.{Naming}
 use Rattle.named.specs.declared.Naming.TheVariants.{Master, Detail, Refused}
 use Rattle.named.specs.declared.Found.{Found}
-use Rattle.named.specs.declared.Found.TheVariants.{At, Refused as None}
+use Rattle.named.specs.declared.Found.TheVariants.{At, Refused as NotFound}
 
 abbrev pub found_out : Found → Outcome ℕ
 found_out (At r) = accept r
-found_out (None why) = refuse why
+found_out (NotFound why) = refuse why
 
 -- −91, −92: by whether the root keeps its rules, and the area has its length
 unfoldable pub knowing_of : Bool → Bool → Knowing

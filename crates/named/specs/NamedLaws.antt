@@ -21,14 +21,14 @@ use Rattle.root.specs.Good.{root_facts, few_paths}
 use Rattle.named.specs.declared.Naming.{Naming}
 use Rattle.named.specs.declared.Naming.TheVariants.{Master, Detail, Refused}
 use Rattle.named.specs.declared.Found.{Found}
-use Rattle.named.specs.declared.Found.TheVariants.{At, Refused as None}
+use Rattle.named.specs.declared.Found.TheVariants.{At, Refused as NotFound}
 use Rattle.named.specs.Answers.{found_out, AMaster, ADetail, Names, Chooses}
 
 -- ---- a record that was found, or not
 pub found_at : (f : Found) (o : Outcome ℕ) (r : ℕ) → found_out f ≡ o → f ≡ At r → o ≡ accept r
 found_at f o r e k = sym e ∙ ap found_out k
 
-pub found_none : (f : Found) (o : Outcome ℕ) (why : Refusal) → found_out f ≡ o → f ≡ None why → o ≡ refuse why
+pub found_none : (f : Found) (o : Outcome ℕ) (why : Refusal) → found_out f ≡ o → f ≡ NotFound why → o ≡ refuse why
 found_none f o why e k = sym e ∙ ap found_out k
 
 -- ---- a set that was named

@@ -44,7 +44,7 @@ use Rattle.session.specs.Answers.{Settable}
 use Rattle.named.specs.declared.Naming.{Naming}
 use Rattle.named.specs.declared.Naming.TheVariants.{Master as AMasterSet, Detail as ADetailSet, Refused as NotNamed}
 use Rattle.named.specs.declared.Found.{Found}
-use Rattle.named.specs.declared.Found.TheVariants.{At, Refused as None}
+use Rattle.named.specs.declared.Found.TheVariants.{At, Refused as NotFound}
 use Rattle.named.specs.Answers.{found_out, fits, AMaster, ADetail, Names, Chooses}
 use Rattle.named.specs.NamedLaws.{found_at, found_none, named_master, named_detail, named_refused, chosen_master, chosen_detail, chosen_stops, master_number, detail_number}
 use Rattle.reads.specs.declared.Reading.{Reading}
@@ -101,7 +101,7 @@ module _ (m : Master) (a : List ℕ) (mode : ℕ) (c : Cursor) (r : ℕ) (key : 
   unfolding view_shape
   asked_master = e ∙ ap (λ z. asked_record z m.shape a c r key room) (ap (of_master m) w ∙ sym (reading_master m [] mode))
 
-  pub master_refused : (why : Refusal) → x ≡ None why → refuse why ≡ get_on (a_master m []) a c mode r key room
+  pub master_refused : (why : Refusal) → x ≡ NotFound why → refuse why ≡ get_on (a_master m []) a c mode r key room
   master_refused why t = sym (got_by (a_master m []) a c mode r key room ∙ stops _ (found_none x _ why asked_master t))
 
   module _ (k : ℕ) (t : x ≡ At k) (y : HeadRead) (q : head_out y ≡ synonyms m.shape a k) where
@@ -129,7 +129,7 @@ module _ (s : Shape) (a : List ℕ) (mode : ℕ) (c : Cursor) (r room : ℕ) (ho
   asked_line : found_out x ≡ asked_record (of_detail (way_of mode 3)) s a c r [] room
   asked_line = e ∙ ap (λ z. asked_record (of_detail z) s a c r [] room) w
 
-  pub line_refused : (why : Refusal) → x ≡ None why → refuse why ≡ line_got s a c mode r room
+  pub line_refused : (why : Refusal) → x ≡ NotFound why → refuse why ≡ line_got s a c mode r room
   unfolding line_got
   line_refused why t = sym (stops _ (found_none x _ why asked_line t))
 
