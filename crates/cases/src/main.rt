@@ -11,37 +11,53 @@ mod stage;
 
 ghost use Rattle.std.specs.Prelude.{◌≡◌, ◌≤◌, length};
 
+use std::io;
+use std::io::{BufWriter, Read, Write};
+
 // Works the script up to its end, or to a line that can't be read: what follows would be worked on another base than was meant.
-fn run(text: &[u8], root: &mut [u16], area: &mut [u16], buffer: &mut [u16]) {
+fn run<W: Write>(
+    writer: &mut W,
+    text: &[u8],
+    root: &mut [u16],
+    area: &mut [u16],
+    buffer: &mut [u16],
+) -> io::Result<()> {
     let mut st = stage::fresh();
     let mut at: usize = 0;
     let mut number: usize = 0;
     while at < text.len() {
         let end = lines::place_of(text, at, 10);
         number += 1;
-        st = stage::work_line(&text[at..end], st, root, area, buffer);
+        st = stage::work_line(writer, &text[at..end], st, root, area, buffer)?;
         let good = st.good;
         if good {
             at = end + 1;
         } else {
-            report::unreadable(number);
-            return;
+            return report::unreadable(writer, number);
         }
     }
+    Ok(())
 }
 
-fn main() {
-    let mut text = io::large_buffer();
-    let n = io::read_full(0, &mut text);
-    if n < 65536 {
-        let mut root_words = rooms::words();
-        let mut area_words = rooms::area();
-        let mut buffer_words = rooms::words();
-        let root: &mut [u16] = &mut root_words;
-        let area: &mut [u16] = &mut area_words;
-        let buffer: &mut [u16] = &mut buffer_words;
-        run(&text[..n], root, area, buffer);
+// Works a script on rooms of its own.
+fn work<W: Write>(writer: &mut W, text: &[u8]) -> io::Result<()> {
+    let mut root_words = rooms::words();
+    let mut area_words = rooms::area();
+    let mut buffer_words = rooms::words();
+    let root: &mut [u16] = &mut root_words;
+    let area: &mut [u16] = &mut area_words;
+    let buffer: &mut [u16] = &mut buffer_words;
+    run(writer, text, root, area, buffer)
+}
+
+fn main(rt: HostRuntime) -> io::Result<()> {
+    let mut text = Vec::new(rt.alloc());
+    rt.reader().take(65536).read_to_end(&mut text)?;
+    let mut writer = BufWriter::new(rt.alloc(), rt.stdout())?;
+    if text.len() < 65536 {
+        work(&mut writer, text.as_slice())?;
     } else {
-        report::too_long();
+        report::too_long(&mut writer)?;
     }
+    writer.flush()
 }

@@ -5,6 +5,8 @@ use crate::command::{Call, Change, Command, command_of, lay_words, number_at, sh
 use crate::{calls, report};
 use session::{Session, fresh_session};
 use spec::Cursor;
+use std::io;
+use std::io::Write;
 use words::{part, put_word};
 
 // The cursors, how many words of the rooms for root, area and buffer are lent, and whether every line so far could be read.
@@ -71,10 +73,8 @@ fn poke(line: &[u8], words: &mut [u16], n: usize) {
 }
 
 fn clear(area: &mut [u16], n: usize) {
-    let mut i: usize = 0;
-    while i < n {
+    for i in 0..n {
         put_word(area, i, 0);
-        i += 1;
     }
 }
 
@@ -134,63 +134,67 @@ fn change(
     }
 }
 
-fn call(
+fn call<W: Write>(
+    writer: &mut W,
     line: &[u8],
     c: Call,
     s: Session,
     root: &[u16],
     area: &mut [u16],
     buffer: &mut [u16],
-) -> Session {
+) -> io::Result<Session> {
     match c {
         Call::New => {
-            calls::new(root, area);
-            s
+            calls::new(writer, root, area)?;
+            Ok(s)
         }
-        Call::Find => calls::find(line, root, area, s),
-        Call::Get => calls::get(line, root, area, s, buffer),
-        Call::Put => calls::put(line, root, area, s),
-        Call::Update => calls::update(line, root, area, s),
-        Call::Delete => calls::delete(line, root, area, s),
+        Call::Find => calls::find(writer, line, root, area, s),
+        Call::Get => calls::get(writer, line, root, area, s, buffer),
+        Call::Put => calls::put(writer, line, root, area, s),
+        Call::Update => calls::update(writer, line, root, area, s),
+        Call::Delete => calls::delete(writer, line, root, area, s),
     }
 }
 
 // A call is lent just the words of root, area and buffer that the script has set.
-fn lend(
+fn lend<W: Write>(
+    writer: &mut W,
     line: &[u8],
     c: Call,
     st: Stage,
     root: &[u16],
     area: &mut [u16],
     buffer: &mut [u16],
-) -> Stage {
+) -> io::Result<Stage> {
     let n = least(st.area, area.len());
     let b = least(st.buffer, buffer.len());
     let s = st.session;
     let t = call(
+        writer,
         line,
         c,
         s,
         part(root, 0, st.root),
         &mut area[..n],
         &mut buffer[..b],
-    );
-    at_cursors(st, t)
+    )?;
+    Ok(at_cursors(st, t))
 }
 
-pub fn work_line(
+pub fn work_line<W: Write>(
+    writer: &mut W,
     line: &[u8],
     st: Stage,
     root: &mut [u16],
     area: &mut [u16],
     buffer: &mut [u16],
-) -> Stage {
-    report::echo(line);
+) -> io::Result<Stage> {
+    report::echo(writer, line)?;
     let asked = command_of(line);
     match asked {
-        Command::Text => st,
-        Command::Change(c) => change(line, c, st, root, area, buffer),
-        Command::Call(c) => lend(line, c, st, root, area, buffer),
-        Command::Unknown => stopped(st),
+        Command::Text => Ok(st),
+        Command::Change(c) => Ok(change(line, c, st, root, area, buffer)),
+        Command::Call(c) => lend(writer, line, c, st, root, area, buffer),
+        Command::Unknown => Ok(stopped(st)),
     }
 }

@@ -1,6 +1,8 @@
 // What a command asks of the engine, read from its line and found good.
 use crate::values::{take_entry, take_value};
 use crate::wanted::{is_end, want_long, want_word};
+use std::io;
+use std::io::Write;
 
 // The set, and beside it what the command names: an item, a mode, a record; and how many words were given.
 #[derive(Clone, Copy)]
@@ -36,29 +38,35 @@ fn of_set(set: u16, size: usize) -> Asked {
 }
 
 // SET
-pub fn ask_set(line: &[u8], from: usize) -> Asked {
-    let s = want_word(line, from, b"the set");
+pub fn ask_set<W: Write>(writer: &mut W, line: &[u8], from: usize) -> io::Result<Asked> {
+    let s = want_word(writer, line, from, b"the set")?;
     if s.ok {
-        if is_end(line, s.next) {
-            return of_set(s.value, 0);
+        if is_end(writer, line, s.next)? {
+            return Ok(of_set(s.value, 0));
         }
     }
-    no()
+    Ok(no())
 }
 
 // SET VALUE..
-pub fn ask_entry(root: &[u16], line: &[u8], from: usize, out: &mut [u16]) -> Asked {
-    let s = want_word(line, from, b"the set");
+pub fn ask_entry<W: Write>(
+    writer: &mut W,
+    root: &[u16],
+    line: &[u8],
+    from: usize,
+    out: &mut [u16],
+) -> io::Result<Asked> {
+    let s = want_word(writer, line, from, b"the set")?;
     if s.ok {
-        let e = take_entry(root, s.value, line, s.next, out);
+        let e = take_entry(writer, root, s.value, line, s.next, out)?;
         if e.ok {
-            if is_end(line, e.next) {
-                return of_set(s.value, e.size);
+            if is_end(writer, line, e.next)? {
+                return Ok(of_set(s.value, e.size));
             }
         }
-        return no();
+        return Ok(no());
     }
-    no()
+    Ok(no())
 }
 
 // Whether the root has an item.
@@ -70,33 +78,46 @@ fn has_item(root: &[u16], item: u16) -> bool {
 }
 
 // The value of an item, and the end of the line; of an item that the root doesn't have no words: the engine says so.
-fn ask_value(root: &[u16], a: Asked, line: &[u8], from: usize, out: &mut [u16]) -> Asked {
+fn ask_value<W: Write>(
+    writer: &mut W,
+    root: &[u16],
+    a: Asked,
+    line: &[u8],
+    from: usize,
+    out: &mut [u16],
+) -> io::Result<Asked> {
     if has_item(root, a.item) {
-        let v = take_value(root, a.item, line, from, out, 0);
+        let v = take_value(writer, root, a.item, line, from, out, 0)?;
         if v.ok {
-            if is_end(line, v.next) {
+            if is_end(writer, line, v.next)? {
                 let mut b = a;
                 b.size = v.size;
-                return b;
+                return Ok(b);
             }
         }
-        return no();
+        return Ok(no());
     }
-    a
+    Ok(a)
 }
 
 // SET ITEM VALUE
-pub fn ask_chain(root: &[u16], line: &[u8], from: usize, out: &mut [u16]) -> Asked {
-    let s = want_word(line, from, b"the set");
+pub fn ask_chain<W: Write>(
+    writer: &mut W,
+    root: &[u16],
+    line: &[u8],
+    from: usize,
+    out: &mut [u16],
+) -> io::Result<Asked> {
+    let s = want_word(writer, line, from, b"the set")?;
     if s.ok {
-        let i = want_word(line, s.next, b"the search item");
+        let i = want_word(writer, line, s.next, b"the search item")?;
         if i.ok {
             let mut a = of_set(s.value, 0);
             a.item = i.value;
-            return ask_value(root, a, line, i.next, out);
+            return ask_value(writer, root, a, line, i.next, out);
         }
     }
-    no()
+    Ok(no())
 }
 
 // The key item of set s; 0 for a set that the root doesn't have, and for a detail.
@@ -111,36 +132,53 @@ fn key_of(root: &[u16], s: u16) -> u16 {
 }
 
 // What a mode wants further: 4 a record, 7 a key, the others nothing.
-fn ask_mode(root: &[u16], a: Asked, line: &[u8], from: usize, out: &mut [u16]) -> Asked {
+fn ask_mode<W: Write>(
+    writer: &mut W,
+    root: &[u16],
+    a: Asked,
+    line: &[u8],
+    from: usize,
+    out: &mut [u16],
+) -> io::Result<Asked> {
     if a.mode == 7 {
         let mut b = a;
         b.item = key_of(root, a.set);
-        return ask_value(root, b, line, from, out);
+        return ask_value(writer, root, b, line, from, out);
     }
     if a.mode == 4 {
-        let r = want_long(line, from, b"the record");
+        let r = want_long(writer, line, from, b"the record")?;
         if r.ok {
-            if is_end(line, r.next) {
+            if is_end(writer, line, r.next)? {
                 let mut b = a;
                 b.number = r.value;
-                return b;
+                return Ok(b);
             }
         }
-        return no();
+        return Ok(no());
     }
-    if is_end(line, from) { a } else { no() }
+    if is_end(writer, line, from)? {
+        Ok(a)
+    } else {
+        Ok(no())
+    }
 }
 
 // SET MODE, then a record or a key
-pub fn ask_get(root: &[u16], line: &[u8], from: usize, out: &mut [u16]) -> Asked {
-    let s = want_word(line, from, b"the set");
+pub fn ask_get<W: Write>(
+    writer: &mut W,
+    root: &[u16],
+    line: &[u8],
+    from: usize,
+    out: &mut [u16],
+) -> io::Result<Asked> {
+    let s = want_word(writer, line, from, b"the set")?;
     if s.ok {
-        let m = want_word(line, s.next, b"the mode");
+        let m = want_word(writer, line, s.next, b"the mode")?;
         if m.ok {
             let mut a = of_set(s.value, 0);
             a.mode = m.value;
-            return ask_mode(root, a, line, m.next, out);
+            return ask_mode(writer, root, a, line, m.next, out);
         }
     }
-    no()
+    Ok(no())
 }

@@ -6,6 +6,9 @@ use crate::files::{load, save, take_root};
 use crate::wanted::{complain, given, is_end, past};
 use lines::is_word;
 use screen::say;
+use std::io;
+use std::io::Write;
+use std::rt::Files;
 use words::part;
 
 // What shows something and changes nothing: 1 to 6.
@@ -74,116 +77,200 @@ fn changes(word: &[u8]) -> u16 {
     reads(word)
 }
 
-fn help_calls() {
-    say(b"  put SET VALUE..            put an entry\n");
-    say(b"  find SET ITEM VALUE        find a chain of a detail set by a search item\n");
-    say(b"  update SET VALUE..         write the current record's entry anew\n");
-    say(b"  delete SET                 delete the current record\n");
+fn help_calls<W: Write>(writer: &mut W) -> io::Result<()> {
+    say(writer, b"  put SET VALUE..            put an entry\n")?;
+    say(
+        writer,
+        b"  find SET ITEM VALUE        find a chain of a detail set by a search item\n",
+    )?;
+    say(
+        writer,
+        b"  update SET VALUE..         write the current record's entry anew\n",
+    )?;
+    say(
+        writer,
+        b"  delete SET                 delete the current record\n",
+    )
 }
 
-fn help_get() {
+fn help_get<W: Write>(writer: &mut W) -> io::Result<()> {
     say(
+        writer,
         b"  get SET MODE               read: 1 again, 2 next, 3 previous, 5 along the chain, 6 back along it\n",
-    );
-    say(b"  get SET 4 RECORD           read the record\n");
-    say(b"  get SET 7 VALUE            read the master entry with this key\n");
-}
-
-fn help_show() {
-    say(b"  forward SET ITEM VALUE     draw a chain from its first line on\n");
-    say(b"  backward SET ITEM VALUE    draw a chain from its last line back\n");
-    say(b"  sets                       every set: kind, fill, items, paths\n");
-    say(b"  map SET                    which records are live\n");
-    say(b"  status                     the last call's status words, told\n");
-    say(b"  cursors                    where each set is being read\n");
-}
-
-fn help_files() {
-    say(b"  new                        an empty base with this root\n");
-    say(b"  root FILE                  an empty base with the root of a file of numbers\n");
-    say(b"  save FILE, load FILE       the base into a file, and back from it\n");
-    say(b"  quit\n");
-}
-
-fn help() {
+    )?;
+    say(writer, b"  get SET 4 RECORD           read the record\n")?;
     say(
-        b"VALUE is a number, or \"characters\" for an X item; VALUE.. is one for each item of the set.\n",
-    );
-    help_calls();
-    help_get();
-    help_show();
-    help_files();
+        writer,
+        b"  get SET 7 VALUE            read the master entry with this key\n",
+    )
 }
 
-fn show_map(line: &[u8], from: usize, root: &[u16], area: &[u16]) {
-    let a = ask_set(line, from);
+fn help_show<W: Write>(writer: &mut W) -> io::Result<()> {
+    say(
+        writer,
+        b"  forward SET ITEM VALUE     draw a chain from its first line on\n",
+    )?;
+    say(
+        writer,
+        b"  backward SET ITEM VALUE    draw a chain from its last line back\n",
+    )?;
+    say(
+        writer,
+        b"  sets                       every set: kind, fill, items, paths\n",
+    )?;
+    say(
+        writer,
+        b"  map SET                    which records are live\n",
+    )?;
+    say(
+        writer,
+        b"  status                     the last call's status words, told\n",
+    )?;
+    say(
+        writer,
+        b"  cursors                    where each set is being read\n",
+    )
+}
+
+fn help_files<W: Write>(writer: &mut W) -> io::Result<()> {
+    say(
+        writer,
+        b"  new                        an empty base with this root\n",
+    )?;
+    say(
+        writer,
+        b"  root FILE                  an empty base with the root of a file of numbers\n",
+    )?;
+    say(
+        writer,
+        b"  save FILE, load FILE       the base into a file, and back from it\n",
+    )?;
+    say(writer, b"  quit\n")
+}
+
+fn help<W: Write>(writer: &mut W) -> io::Result<()> {
+    say(
+        writer,
+        b"VALUE is a number, or \"characters\" for an X item; VALUE.. is one for each item of the set.\n",
+    )?;
+    help_calls(writer)?;
+    help_get(writer)?;
+    help_show(writer)?;
+    help_files(writer)
+}
+
+fn show_map<W: Write>(
+    writer: &mut W,
+    line: &[u8],
+    from: usize,
+    root: &[u16],
+    area: &[u16],
+) -> io::Result<()> {
+    let a = ask_set(writer, line, from)?;
     if a.ok {
-        screen::map(root, area, a.set);
+        screen::map(writer, root, area, a.set)?;
     }
+    Ok(())
 }
 
 // The file that a command names: whether the line has a name, and nothing more.
-fn is_named(line: &[u8], from: usize) -> bool {
+fn is_named<W: Write>(writer: &mut W, line: &[u8], from: usize) -> io::Result<bool> {
     let name = given(line, from);
     if name.len() == 0 {
-        complain(b"the file", name, b"its name is wanted");
-        return false;
+        complain(writer, b"the file", name, b"its name is wanted")?;
+        return Ok(false);
     }
-    is_end(line, past(line, from))
+    is_end(writer, line, past(line, from))
 }
 
-fn show_save(line: &[u8], from: usize, root: &[u16], area: &[u16]) {
-    if is_named(line, from) {
-        save(given(line, from), root, area);
+fn show_save<R: Files, W: Write>(
+    rt: &R,
+    writer: &mut W,
+    line: &[u8],
+    from: usize,
+    root: &[u16],
+    area: &[u16],
+) -> io::Result<()> {
+    if is_named(writer, line, from)? {
+        save(rt, writer, given(line, from), root, area)?;
     }
+    Ok(())
 }
 
-fn unknown(word: &[u8]) {
-    say(word);
-    say(b" is no command; help tells them\n");
+fn unknown<W: Write>(writer: &mut W, word: &[u8]) -> io::Result<()> {
+    say(writer, word)?;
+    say(writer, b" is no command; help tells them\n")
 }
 
-fn show(code: u16, line: &[u8], from: usize, root: &[u16], area: &[u16], d: Desk) {
+fn show<R: Files, W: Write>(
+    rt: &R,
+    writer: &mut W,
+    code: u16,
+    line: &[u8],
+    from: usize,
+    root: &[u16],
+    area: &[u16],
+    d: Desk,
+) -> io::Result<()> {
     match code {
-        1 => help(),
-        2 => screen::sets(root, area),
-        3 => show_map(line, from, root, area),
-        4 => say_status(d),
-        5 => say_cursors(d, root),
-        6 => show_save(line, from, root, area),
-        _ => unknown(given(line, 0)),
+        1 => help(writer),
+        2 => screen::sets(writer, root, area),
+        3 => show_map(writer, line, from, root, area),
+        4 => say_status(writer, d),
+        5 => say_cursors(writer, d, root),
+        6 => show_save(rt, writer, line, from, root, area),
+        _ => unknown(writer, given(line, 0)),
     }
 }
 
-fn look(code: u16, line: &[u8], from: usize, root: &[u16], area: &[u16], d: Desk) -> Desk {
+fn look<R: Files, W: Write>(
+    rt: &R,
+    writer: &mut W,
+    code: u16,
+    line: &[u8],
+    from: usize,
+    root: &[u16],
+    area: &[u16],
+    d: Desk,
+) -> io::Result<Desk> {
     match code {
-        11 => find(line, from, root, area, d),
-        12 => get(line, from, root, area, d),
+        11 => find(writer, line, from, root, area, d),
+        12 => get(writer, line, from, root, area, d),
         13 => {
-            chain(line, from, root, area, d, 5);
-            d
+            chain(writer, line, from, root, area, d, 5)?;
+            Ok(d)
         }
         14 => {
-            chain(line, from, root, area, d, 6);
-            d
+            chain(writer, line, from, root, area, d, 6)?;
+            Ok(d)
         }
         _ => {
-            show(code, line, from, root, area, d);
-            d
+            show(rt, writer, code, line, from, root, area, d)?;
+            Ok(d)
         }
     }
 }
 
-fn change(code: u16, line: &[u8], from: usize, root: &[u16], area: &mut [u16], d: Desk) -> Desk {
+fn change<W: Write>(
+    writer: &mut W,
+    code: u16,
+    line: &[u8],
+    from: usize,
+    root: &[u16],
+    area: &mut [u16],
+    d: Desk,
+) -> io::Result<Desk> {
     match code {
-        21 => put(line, from, root, area, d),
-        22 => update(line, from, root, area, d),
-        23 => delete(line, from, root, area, d),
-        _ => make(root, area, d),
+        21 => put(writer, line, from, root, area, d),
+        22 => update(writer, line, from, root, area, d),
+        23 => delete(writer, line, from, root, area, d),
+        _ => make(writer, root, area, d),
     }
 }
 
-fn replace(
+fn replace<R: Files, W: Write>(
+    rt: &R,
+    writer: &mut W,
     code: u16,
     line: &[u8],
     from: usize,
@@ -191,33 +278,43 @@ fn replace(
     area: &mut [u16],
     spare: &mut [u16],
     d: Desk,
-) -> Desk {
+) -> io::Result<Desk> {
     if code == 33 {
-        return d.left();
+        return Ok(d.left());
     }
-    if is_named(line, from) {
+    if is_named(writer, line, from)? {
         let name = given(line, from);
         if code == 31 {
-            return take_root(name, root, area, spare, d);
+            return take_root(rt, writer, name, root, area, spare, d);
         }
-        return load(name, root, area, spare, d);
+        return load(rt, writer, name, root, area, spare, d);
     }
-    d
+    Ok(d)
 }
 
 // One line: nothing, or a command. A line that begins with # is a remark.
-pub fn turn(line: &[u8], root: &mut [u16], area: &mut [u16], spare: &mut [u16], d: Desk) -> Desk {
+pub fn turn<R: Files, W: Write>(
+    rt: &R,
+    writer: &mut W,
+    line: &[u8],
+    root: &mut [u16],
+    area: &mut [u16],
+    spare: &mut [u16],
+    d: Desk,
+) -> io::Result<Desk> {
     let word = given(line, 0);
     if word.len() == 0 {
-        return d;
+        return Ok(d);
     }
     if word[0] == 35 {
-        return d;
+        return Ok(d);
     }
     let from = past(line, 0);
     let code = changes(word);
     if code < 20 {
         return look(
+            rt,
+            writer,
             code,
             line,
             from,
@@ -229,9 +326,17 @@ pub fn turn(line: &[u8], root: &mut [u16], area: &mut [u16], spare: &mut [u16], 
     if code < 30 {
         let n = d.area;
         if n <= area.len() {
-            return change(code, line, from, part(root, 0, d.root), &mut area[..n], d);
+            return change(
+                writer,
+                code,
+                line,
+                from,
+                part(root, 0, d.root),
+                &mut area[..n],
+                d,
+            );
         }
-        return d;
+        return Ok(d);
     }
-    replace(code, line, from, root, area, spare, d)
+    replace(rt, writer, code, line, from, root, area, spare, d)
 }

@@ -1,6 +1,8 @@
 // What lies before the person: the cursors, the last status, and how much of the rooms root and area take.
 use screen::{say, say_long, say_word};
 use session::Session;
+use std::io;
+use std::io::Write;
 use words::long_at;
 
 #[derive(Clone, Copy)]
@@ -43,56 +45,59 @@ pub fn answered(d: Desk, status: [u16; 10], session: Session) -> Desk {
     }
 }
 
-fn say_line(name: &[u8], n: u32) {
-    say(name);
-    say_long(n);
-    say(b"\n");
+fn say_line<W: Write>(writer: &mut W, name: &[u8], n: u32) -> io::Result<()> {
+    say(writer, name)?;
+    say_long(writer, n)?;
+    say(writer, b"\n")
 }
 
 // The ten status words of the last call, told one by one.
-pub fn say_status(d: Desk) {
+pub fn say_status<W: Write>(writer: &mut W, d: Desk) -> io::Result<()> {
     let status = d.status;
     let w: &[u16] = &status;
     let condition = words::word(w, 0);
     if condition == 0 {
-        say(b"accepted, 0\n");
+        say(writer, b"accepted, 0\n")?;
     } else {
-        screen::refused(condition);
+        screen::refused(writer, condition)?;
     }
-    say_line(b"  entry length             ", words::word(w, 1) as u32);
-    say_line(b"  record                   ", long_at(w, 2));
-    say_line(b"  lines or synonyms        ", long_at(w, 4));
-    say_line(b"  saved back               ", long_at(w, 6));
-    say_line(b"  saved forward            ", long_at(w, 8));
+    say_line(
+        writer,
+        b"  entry length             ",
+        words::word(w, 1) as u32,
+    )?;
+    say_line(writer, b"  record                   ", long_at(w, 2))?;
+    say_line(writer, b"  lines or synonyms        ", long_at(w, 4))?;
+    say_line(writer, b"  saved back               ", long_at(w, 6))?;
+    say_line(writer, b"  saved forward            ", long_at(w, 8))
 }
 
-fn say_cursor(d: Desk, s: u16) {
+fn say_cursor<W: Write>(writer: &mut W, d: Desk, s: u16) -> io::Result<()> {
     if s == 0 {
-        return;
+        return Ok(());
     }
     if 16 < s {
-        return;
+        return Ok(());
     }
     let c = session::cursor_of(d.session, s);
-    say(b"set ");
-    say_word(s);
-    say(b": record ");
-    say_long(c.current);
-    say(b", path ");
-    say_long(c.path);
-    say(b", saved back ");
-    say_long(c.back);
-    say(b", saved forward ");
-    say_long(c.fore);
-    say(b"\n");
+    say(writer, b"set ")?;
+    say_word(writer, s)?;
+    say(writer, b": record ")?;
+    say_long(writer, c.current)?;
+    say(writer, b", path ")?;
+    say_long(writer, c.path)?;
+    say(writer, b", saved back ")?;
+    say_long(writer, c.back)?;
+    say(writer, b", saved forward ")?;
+    say_long(writer, c.fore)?;
+    say(writer, b"\n")
 }
 
 // The cursor of each set of the root.
-pub fn say_cursors(d: Desk, root: &[u16]) {
+pub fn say_cursors<W: Write>(writer: &mut W, d: Desk, root: &[u16]) -> io::Result<()> {
     let n = root::sets(root);
-    let mut s: u16 = 0;
-    while s < n {
-        s += 1;
-        say_cursor(d, s);
+    for i in 0..n {
+        say_cursor(writer, d, i + 1)?;
     }
+    Ok(())
 }

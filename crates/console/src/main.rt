@@ -13,12 +13,16 @@ mod wanted;
 ghost use Rattle.std.specs.Prelude.{◌≤◌, ◌≡◌, length};
 
 use desk::{Desk, fresh_desk};
+use files::buffer;
 use screen::say;
+use std::io::{BufWriter, Write};
+use std::rt::{Env, Files};
+use std::{fs, io, str};
 
 // Where commands come from; a script's are shown as they are carried out.
-#[derive(Clone, Copy)]
-struct Source {
-    fd: i32,
+#[derive(Drop)]
+struct Source<I> {
+    input: I,
     script: bool,
 }
 
@@ -65,26 +69,23 @@ fn sample_root(root: &mut [u16]) {
     words::lay(root, 97, &[1, 1, 2, 2, 2, 0]);
 }
 
-fn read_byte(fd: i32) -> Byte {
+fn read_byte<I: io::Read>(input: &mut I) -> Byte {
     let mut one = [0u8; 1];
-    let got = libc::read(fd, &mut one);
-    if 0 < got {
-        Byte::Of(one[0])
-    } else {
-        Byte::None
+    match input.read(&mut one) {
+        Ok(0) => Byte::None,
+        Ok(_) => Byte::Of(one[0]),
+        Err(_) => Byte::None,
     }
 }
 
 // The next line, as much of it as there is room for. A byte at a time, so that nothing of the line after it is taken.
-fn read_line(fd: i32, line: &mut [u8]) -> Read
+fn read_line<I: io::Read>(input: &mut I, line: &mut [u8]) -> Read
     ensures { result.size ≤ length line.new }
 {
     let mut n: usize = 0;
     let mut whole = true;
-    let mut turns = u64::MAX;
-    while 0 < turns {
-        turns -= 1;
-        match read_byte(fd) {
+    for _ in 0..u64::MAX {
+        match read_byte(input) {
             Byte::Of(b) => {
                 if b == 10 {
                     return Read {
@@ -117,79 +118,137 @@ fn read_line(fd: i32, line: &mut [u8]) -> Read
 }
 
 // One line of the source: read, shown if it is a script's, and carried out.
-fn serve(source: Source, root: &mut [u16], area: &mut [u16], spare: &mut [u16], d: Desk) -> Desk {
-    let mut line = io::buffer();
-    let r = read_line(source.fd, &mut line);
+fn serve<R: Files, I: io::Read, W: Write>(
+    rt: &R,
+    source: &mut Source<I>,
+    writer: &mut W,
+    root: &mut [u16],
+    area: &mut [u16],
+    spare: &mut [u16],
+    d: Desk,
+) -> io::Result<Desk> {
+    let mut line = buffer();
+    let r = read_line(&mut source.input, &mut line);
     let n = r.size;
     if r.there {
         if source.script {
-            say(b"> ");
-            say(&line[..n]);
-            say(b"\n");
+            say(writer, b"> ")?;
+            say(writer, &line[..n])?;
+            say(writer, b"\n")?;
         }
         if r.whole {
-            return commands::turn(&line[..n], root, area, spare, d);
+            return commands::turn(rt, writer, &line[..n], root, area, spare, d);
         }
-        say(b"the line is longer than 4096 characters; nothing was done\n");
-        return d;
+        say(
+            writer,
+            b"the line is longer than 4096 characters; nothing was done\n",
+        )?;
+        return Ok(d);
     }
-    ended(source, d)
+    ended(source, writer, d)
 }
 
 // No line is left. A terminal that showed the sign for one gets its line ended.
-fn ended(source: Source, d: Desk) -> Desk {
+fn ended<I, W: Write>(source: &Source<I>, writer: &mut W, d: Desk) -> io::Result<Desk> {
     if source.script {
-        return d.left();
+        return Ok(d.left());
     }
-    say(b"\n");
-    d.left()
+    say(writer, b"\n")?;
+    Ok(d.left())
 }
 
-fn run(source: Source, root: &mut [u16], area: &mut [u16], spare: &mut [u16]) {
+fn run<R: Files, I: io::Read, W: Write>(
+    rt: &R,
+    source: &mut Source<I>,
+    writer: &mut W,
+    root: &mut [u16],
+    area: &mut [u16],
+    spare: &mut [u16],
+) -> io::Result<()> {
     sample_root(root);
     let mut d = fresh_desk(109, 173);
-    let mut turns = u64::MAX;
-    while 0 < turns {
-        turns -= 1;
+    for _ in 0..u64::MAX {
         if d.going {
-            prompt(source);
-            d = serve(source, root, area, spare, d);
+            prompt(source, writer)?;
+            d = serve(rt, source, writer, root, area, spare, d)?;
         } else {
-            turns = 0;
+            break;
         }
     }
+    Ok(())
 }
 
-// A terminal is asked for each line.
-fn prompt(source: Source) {
-    if source.script {
-        return;
+// A terminal is asked for each line. All that was written before is seen before the line is read.
+fn prompt<I, W: Write>(source: &Source<I>, writer: &mut W) -> io::Result<()> {
+    if !source.script {
+        say(writer, b"> ")?;
     }
-    say(b"> ");
+    writer.flush()
 }
 
-fn start(source: Source) {
+fn start<R: Files, I: io::Read, W: Write>(
+    rt: &R,
+    source: &mut Source<I>,
+    writer: &mut W,
+) -> io::Result<()> {
     let mut root = root_room();
     let mut area = area_room();
     let mut spare = area_room();
-    say(b"Maltorhu, on the sample base of three sets, empty. help tells the commands.\n");
-    run(source, &mut root, &mut area, &mut spare);
+    say(
+        writer,
+        b"Maltorhu, on the sample base of three sets, empty. help tells the commands.\n",
+    )?;
+    run(rt, source, writer, &mut root, &mut area, &mut spare)?;
+    writer.flush()
 }
 
-fn main() {
-    let mut name = io::buffer();
-    let n = os::arg(1, &mut name);
+// The program's argument at a place: its length, 0 where it is missing or longer than its room.
+fn arg<E: Env>(rt: &E, i: usize, name: &mut [u8]) -> usize
+    ensures { result ≤ length name.new }
+{
+    match rt.arg(i, name) {
+        Ok(n) => n,
+        Err(_) => 0,
+    }
+}
+
+// One line of what failed and why. The system's reasons end in their number, which is left out.
+fn fail<W: Write>(writer: &mut W, what: &[u8], text: &str) -> io::Result<()> {
+    let why = match text.split_once(" (os error ") {
+        Some((before, _)) => before,
+        None => text,
+    };
+    say(writer, what)?;
+    say(writer, b": ")?;
+    say(writer, why.as_bytes())?;
+    say(writer, b"\n")
+}
+
+fn main(rt: HostRuntime) -> io::Result<()> {
+    let mut name = buffer();
+    let n = arg(&rt, 1, &mut name);
+    let mut writer = BufWriter::new(rt.alloc(), rt.stdout())?;
     if n == 0 {
-        start(Source {
-            fd: 0,
+        let mut source = Source {
+            input: rt.reader(),
             script: false,
-        });
-        return;
+        };
+        return start(&rt, &mut source, &mut writer);
     }
-    let fd = os::open_read(&name[..n]);
-    if fd < 0 {
-        os::fail(&name[..n]);
-        return;
+    let Ok(path) = str::from_utf8(&name[..n]) else {
+        return fail(&mut rt.stderr(), &name[..n], "the name of a file is text");
+    };
+    match fs::open(&rt, path) {
+        Ok(input) => {
+            let mut source = Source {
+                input,
+                script: true,
+            };
+            start(&rt, &mut source, &mut writer)
+        }
+        Err(e) => {
+            let text = format!(in rt.alloc(); "{e}")?;
+            fail(&mut rt.stderr(), &name[..n], text.as_str())
+        }
     }
-    start(Source { fd, script: true });
 }

@@ -1,9 +1,11 @@
 // A value that a person wrote, as the words of its item: a number, or a text in quotes.
-ghost use Rattle.std.specs.Prelude.{◌≤◌, ◌<◌, ◌≡◌, length};
+ghost use Rattle.std.specs.Prelude.{◌≤◌, ◌<◌, ◌≡◌, IfOk, length};
 
 use crate::wanted::{complain, given, past, word_at};
 use lines::{Number, number_of, place_of};
 use root::{item_length, item_type, set_item};
+use std::io;
+use std::io::Write;
 use words::{high, lay, low, part};
 
 // Whether a value was read, the words read so far, and the place past it.
@@ -93,23 +95,29 @@ fn lay_number(out: &mut [u16], to: usize, n: u32, size: usize) {
     }
 }
 
-fn take_number(
+fn take_number<W: Write>(
+    writer: &mut W,
     line: &[u8],
     from: usize,
     kind: u16,
     size: usize,
     out: &mut [u16],
     to: usize,
-) -> bool {
+) -> io::Result<bool> {
     let text = given(line, from);
     match whole(text, kind, size) {
         Number::Given(n) => {
             lay_number(out, to, n, size);
-            true
+            Ok(true)
         }
         Number::Bad => {
-            complain(b"a value", text, b"a number that fits its item is wanted");
-            false
+            complain(
+                writer,
+                b"a value",
+                text,
+                b"a number that fits its item is wanted",
+            )?;
+            Ok(false)
         }
     }
 }
@@ -144,7 +152,14 @@ fn quoted_text(line: &[u8], from: usize) -> Quoted
     }
 }
 
-fn take_text(line: &[u8], from: usize, size: usize, out: &mut [u16], to: usize) -> bool {
+fn take_text<W: Write>(
+    writer: &mut W,
+    line: &[u8],
+    from: usize,
+    size: usize,
+    out: &mut [u16],
+    to: usize,
+) -> io::Result<bool> {
     let q = quoted_text(line, from);
     let at = q.at;
     let end = q.end;
@@ -154,14 +169,19 @@ fn take_text(line: &[u8], from: usize, size: usize, out: &mut [u16], to: usize) 
             let mut room = item_room();
             lent::pack(text, &mut room);
             lay(out, to, part(&room, 0, size));
-            return true;
+            return Ok(true);
         }
-        complain(b"a text", text, b"it is longer than its item");
-        return false;
+        complain(writer, b"a text", text, b"it is longer than its item")?;
+        return Ok(false);
     }
     let word = given(line, from);
-    complain(b"a text", word, b"characters in double quotes are wanted");
-    false
+    complain(
+        writer,
+        b"a text",
+        word,
+        b"characters in double quotes are wanted",
+    )?;
+    Ok(false)
 }
 
 // The place past a value.
@@ -176,25 +196,26 @@ fn past_value(line: &[u8], from: usize, kind: u16) -> usize {
 }
 
 // The value of an item of the root, laid over the words from a place on.
-pub fn take_value(
+pub fn take_value<W: Write>(
+    writer: &mut W,
     root: &[u16],
     item: u16,
     line: &[u8],
     from: usize,
     out: &mut [u16],
     to: usize,
-) -> Taken
-    ensures { result.size ≤ 65535 }
+) -> io::Result<Taken>
+    ensures { IfOk result (λ t. t.size ≤ 65535) }
 {
     let kind = item_type(root, item);
     let size = item_length(root, item) as usize;
     let next = past_value(line, from, kind);
     let ok = if kind == 3 {
-        take_text(line, from, size, out, to)
+        take_text(writer, line, from, size, out, to)?
     } else {
-        take_number(line, from, kind, size, out, to)
+        take_number(writer, line, from, kind, size, out, to)?
     };
-    Taken { ok, size, next }
+    Ok(Taken { ok, size, next })
 }
 
 // How many items set s has, and its j-th; 0 for a set that the root doesn't have.
@@ -214,26 +235,32 @@ fn item_of(root: &[u16], s: u16, j: u16) -> u16 {
 
 // The entry of set s, a value for each of its items. For a set that the root doesn't have the line is left unread: the engine
 // says so.
-pub fn take_entry(root: &[u16], s: u16, line: &[u8], from: usize, out: &mut [u16]) -> Taken {
+pub fn take_entry<W: Write>(
+    writer: &mut W,
+    root: &[u16],
+    s: u16,
+    line: &[u8],
+    from: usize,
+    out: &mut [u16],
+) -> io::Result<Taken> {
     let n = items_of(root, s);
     let mut size: usize = 0;
     let mut next = if n == 0 { line.len() } else { from };
-    let mut j: u16 = 0;
-    while j < n {
-        j += 1;
-        let t = take_value(root, item_of(root, s, j), line, next, out, size);
+    for i in 0..n {
+        let item = item_of(root, s, i + 1);
+        let t = take_value(writer, root, item, line, next, out, size)?;
         next = t.next;
         if t.ok {
             if size < 65536 {
                 size += t.size;
             }
         } else {
-            return t;
+            return Ok(t);
         }
     }
-    Taken {
+    Ok(Taken {
         ok: true,
         size,
         next,
-    }
+    })
 }

@@ -3,6 +3,8 @@ ghost use Rattle.std.specs.Prelude.{◌≤◌, length};
 
 use lines::{Number, Word, next_word, number_of};
 use screen::say;
+use std::io;
+use std::io::Write;
 
 // A number that fits a word, and the place past it.
 #[derive(Clone, Copy)]
@@ -48,68 +50,88 @@ pub fn past(line: &[u8], from: usize) -> usize
 }
 
 // What isn't there, or isn't what it should be.
-pub fn complain(what: &[u8], text: &[u8], wanted: &[u8]) {
-    say(what);
+pub fn complain<W: Write>(
+    writer: &mut W,
+    what: &[u8],
+    text: &[u8],
+    wanted: &[u8],
+) -> io::Result<()> {
+    say(writer, what)?;
     if text.len() == 0 {
-        say(b" is missing: ");
+        say(writer, b" is missing: ")?;
     } else {
-        say(b" can't be ");
-        say(text);
-        say(b": ");
+        say(writer, b" can't be ")?;
+        say(writer, text)?;
+        say(writer, b": ")?;
     }
-    say(wanted);
-    say(b"; nothing was done\n");
+    say(writer, wanted)?;
+    say(writer, b"; nothing was done\n")
 }
 
-pub fn want_long(line: &[u8], from: usize, what: &[u8]) -> Large {
+pub fn want_long<W: Write>(
+    writer: &mut W,
+    line: &[u8],
+    from: usize,
+    what: &[u8],
+) -> io::Result<Large> {
     let text = given(line, from);
     let next = past(line, from);
     match number_of(text) {
-        Number::Given(n) => Large {
+        Number::Given(n) => Ok(Large {
             ok: true,
             value: n,
             next,
-        },
+        }),
         Number::Bad => {
-            complain(what, text, b"a number is wanted");
-            Large {
+            complain(writer, what, text, b"a number is wanted")?;
+            Ok(Large {
                 ok: false,
                 value: 0,
                 next,
-            }
+            })
         }
     }
 }
 
-pub fn want_word(line: &[u8], from: usize, what: &[u8]) -> Small {
+pub fn want_word<W: Write>(
+    writer: &mut W,
+    line: &[u8],
+    from: usize,
+    what: &[u8],
+) -> io::Result<Small> {
     let text = given(line, from);
     let next = past(line, from);
     match number_of(text) {
         Number::Given(n) => {
             if n < 65536 {
-                return Small {
+                return Ok(Small {
                     ok: true,
                     value: n as u16,
                     next,
-                };
+                });
             }
         }
         Number::Bad => {}
     }
-    complain(what, text, b"a number from 0 to 65535 is wanted");
-    Small {
+    complain(writer, what, text, b"a number from 0 to 65535 is wanted")?;
+    Ok(Small {
         ok: false,
         value: 0,
         next,
-    }
+    })
 }
 
 // Whether the line ends at a place, blanks aside.
-pub fn is_end(line: &[u8], from: usize) -> bool {
+pub fn is_end<W: Write>(writer: &mut W, line: &[u8], from: usize) -> io::Result<bool> {
     let text = given(line, from);
     if text.len() == 0 {
-        return true;
+        return Ok(true);
     }
-    complain(b"the rest of the line", text, b"nothing more is wanted");
-    false
+    complain(
+        writer,
+        b"the rest of the line",
+        text,
+        b"nothing more is wanted",
+    )?;
+    Ok(false)
 }

@@ -8,6 +8,8 @@ use root::{
     path_search, path_sort, set_item,
 };
 use spec::Shape;
+use std::io;
+use std::io::Write;
 
 // Where a set stands in the area, if the root has it.
 #[derive(Clone, Copy)]
@@ -34,11 +36,9 @@ fn stands(root: &[u16], area: &[u16], s: u16) -> Seen {
 // "A live count is the number of ones in the map."
 fn live_count(area: &[u16], s: Shape) -> u32 {
     let cap = s.cap as u32;
-    let mut r: u32 = 0;
     let mut n: u32 = 0;
-    while r < cap {
-        r += 1;
-        if live(area, s, r) {
+    for r in 0..cap {
+        if live(area, s, r + 1) {
             n += 1;
         }
     }
@@ -46,149 +46,143 @@ fn live_count(area: &[u16], s: Shape) -> u32 {
 }
 
 // How many of how many, and the hundredth parts.
-fn say_fill(n: u32, cap: u16) {
-    say_long(n);
-    say(b" of ");
-    say_word(cap);
-    say(b" live");
+fn say_fill<W: Write>(writer: &mut W, n: u32, cap: u16) -> io::Result<()> {
+    say_long(writer, n)?;
+    say(writer, b" of ")?;
+    say_word(writer, cap)?;
+    say(writer, b" live")?;
     if 0 < cap {
-        say(b", ");
-        say_long((n % 65536) * 100 / (cap as u32));
-        say(b" % full");
+        say(writer, b", ")?;
+        say_long(writer, (n % 65536) * 100 / (cap as u32))?;
+        say(writer, b" % full")?;
     }
+    Ok(())
 }
 
-fn say_kind(k: u16) {
+fn say_kind<W: Write>(writer: &mut W, k: u16) -> io::Result<()> {
     match k {
-        1 => say(b"manual master"),
-        2 => say(b"automatic master"),
-        _ => say(b"detail"),
+        1 => say(writer, b"manual master"),
+        2 => say(writer, b"automatic master"),
+        _ => say(writer, b"detail"),
     }
 }
 
-fn say_type(t: u16) {
+fn say_type<W: Write>(writer: &mut W, t: u16) -> io::Result<()> {
     match t {
-        1 => say(b"I"),
-        2 => say(b"K"),
-        _ => say(b"X"),
+        1 => say(writer, b"I"),
+        2 => say(writer, b"K"),
+        _ => say(writer, b"X"),
     }
 }
 
 // The items of set s, each with its type and length.
-fn say_items(root: &[u16], s: u16)
+fn say_items<W: Write>(writer: &mut W, root: &[u16], s: u16) -> io::Result<()>
     requires { 1 ≤ s }
 {
     let n = item_count(root, s);
-    let mut j: u16 = 0;
-    while j < n {
-        j += 1;
+    for i in 0..n {
+        let j = i + 1;
         let item = set_item(root, s, j);
-        say(b" ");
-        say_word(item);
-        say(b":");
-        say_type(item_type(root, item));
-        say_word(item_length(root, item));
+        say(writer, b" ")?;
+        say_word(writer, item)?;
+        say(writer, b":")?;
+        say_type(writer, item_type(root, item))?;
+        say_word(writer, item_length(root, item))?;
     }
+    Ok(())
 }
 
-fn say_path(root: &[u16], s: u16, p: u16)
+fn say_path<W: Write>(writer: &mut W, root: &[u16], s: u16, p: u16) -> io::Result<()>
     requires { 1 ≤ s }
 {
-    say(b"    path ");
-    say_word(p);
-    say(b": search item ");
-    say_word(path_search(root, s, p));
-    say(b", master set ");
-    say_word(path_master(root, s, p));
+    say(writer, b"    path ")?;
+    say_word(writer, p)?;
+    say(writer, b": search item ")?;
+    say_word(writer, path_search(root, s, p))?;
+    say(writer, b", master set ")?;
+    say_word(writer, path_master(root, s, p))?;
     let sort = path_sort(root, s, p);
     if sort == 0 {
-        say(b", in the order put\n");
-    } else {
-        say(b", sorted by item ");
-        say_word(sort);
-        say(b"\n");
+        return say(writer, b", in the order put\n");
     }
+    say(writer, b", sorted by item ")?;
+    say_word(writer, sort)?;
+    say(writer, b"\n")
 }
 
-fn say_paths(root: &[u16], s: u16)
+fn say_paths<W: Write>(writer: &mut W, root: &[u16], s: u16) -> io::Result<()>
     requires { 1 ≤ s }
 {
     let n = path_count(root, s);
-    let mut p: u16 = 0;
-    while p < n {
-        p += 1;
-        say_path(root, s, p);
+    for i in 0..n {
+        say_path(writer, root, s, i + 1)?;
     }
+    Ok(())
 }
 
-fn say_set(root: &[u16], area: &[u16], s: u16)
+fn say_set<W: Write>(writer: &mut W, root: &[u16], area: &[u16], s: u16) -> io::Result<()>
     requires { 1 ≤ s }
 {
-    say(b"set ");
-    say_word(s);
-    say(b": ");
-    say_kind(kind(root, s));
-    say(b", ");
+    say(writer, b"set ")?;
+    say_word(writer, s)?;
+    say(writer, b": ")?;
+    say_kind(writer, kind(root, s))?;
+    say(writer, b", ")?;
     match stands(root, area, s) {
-        Seen::At(at) => say_fill(live_count(area, at), at.cap),
-        Seen::Nowhere => say(b"nowhere"),
+        Seen::At(at) => say_fill(writer, live_count(area, at), at.cap)?,
+        Seen::Nowhere => say(writer, b"nowhere")?,
     }
-    say(b", items");
-    say_items(root, s);
+    say(writer, b", items")?;
+    say_items(writer, root, s)?;
     let key = key_item(root, s);
     if 0 < key {
-        say(b", key ");
-        say_word(key);
+        say(writer, b", key ")?;
+        say_word(writer, key)?;
     }
-    say(b"\n");
-    say_paths(root, s);
+    say(writer, b"\n")?;
+    say_paths(writer, root, s)
 }
 
-pub fn sets(root: &[u16], area: &[u16]) {
+pub fn sets<W: Write>(writer: &mut W, root: &[u16], area: &[u16]) -> io::Result<()> {
     let n = root::sets(root);
-    let mut s: u16 = 0;
-    while s < n {
-        s += 1;
-        say_set(root, area, s);
+    for i in 0..n {
+        say_set(writer, root, area, i + 1)?;
     }
+    Ok(())
 }
 
 // The map, fifty records to a line, each line after the number of its first.
-fn say_map(area: &[u16], s: Shape) {
+fn say_map<W: Write>(writer: &mut W, area: &[u16], s: Shape) -> io::Result<()> {
     let cap = s.cap as u32;
-    let mut r: u32 = 0;
-    while r < cap {
+    for r in 0..cap {
         if r % 50 == 0 {
             if 0 < r {
-                say(b"\n");
+                say(writer, b"\n")?;
             }
-            say_long(r + 1);
-            say(b" ");
+            say_long(writer, r + 1)?;
+            say(writer, b" ")?;
         }
-        r += 1;
-        if live(area, s, r) {
-            say(b"#");
+        if live(area, s, r + 1) {
+            say(writer, b"#")?;
         } else {
-            say(b".");
+            say(writer, b".")?;
         }
     }
-    say(b"\n");
+    say(writer, b"\n")
 }
 
 // The map of a set, and for a detail its two leading words.
-pub fn map(root: &[u16], area: &[u16], s: u16) {
+pub fn map<W: Write>(writer: &mut W, root: &[u16], area: &[u16], s: u16) -> io::Result<()> {
     match stands(root, area, s) {
         Seen::At(at) => {
-            say_fill(live_count(area, at), at.cap);
-            say(b"; high-water mark ");
-            say_word(mark(area, at));
-            say(b", first freed ");
-            say_word(freed(area, at));
-            say(b"\n");
-            say_map(area, at);
+            say_fill(writer, live_count(area, at), at.cap)?;
+            say(writer, b"; high-water mark ")?;
+            say_word(writer, mark(area, at))?;
+            say(writer, b", first freed ")?;
+            say_word(writer, freed(area, at))?;
+            say(writer, b"\n")?;
+            say_map(writer, area, at)
         }
-        Seen::Nowhere => {
-            say(b"no such set\n");
-        }
+        Seen::Nowhere => say(writer, b"no such set\n"),
     }
 }

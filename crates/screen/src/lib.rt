@@ -9,40 +9,40 @@ ghost use Rattle.std.specs.Prelude.{◌≤◌, ◌*◌, ◌≡◌, length};
 
 pub use condition::refused;
 pub use filled::{map, sets};
-use libc::STDOUT_FILENO;
 use root::{item_length, item_type, set_item};
+use std::io;
+use std::io::Write;
 use words::{long_at, part, word};
 
-pub fn say(text: &[u8]) {
-    io::write_all(STDOUT_FILENO, text);
+pub fn say<W: Write>(writer: &mut W, text: &[u8]) -> io::Result<()> {
+    writer.write_all(text)
 }
 
-pub fn say_long(n: u32) {
-    io::print_decimal(STDOUT_FILENO, n as u64);
+pub fn say_long<W: Write>(writer: &mut W, n: u32) -> io::Result<()> {
+    write!(writer, "{n}")
 }
 
-pub fn say_word(n: u16) {
-    say_long(n as u32);
+pub fn say_word<W: Write>(writer: &mut W, n: u16) -> io::Result<()> {
+    say_long(writer, n as u32)
 }
 
 // A word read as a signed number: "The word is signed, stored as two's complement".
-pub fn say_signed(w: u16) {
+pub fn say_signed<W: Write>(writer: &mut W, w: u16) -> io::Result<()> {
     if w < 32768 {
-        say_word(w);
-        return;
+        return say_word(writer, w);
     }
-    say(b"-");
-    say_long(65536 - (w as u32));
+    say(writer, b"-")?;
+    say_long(writer, 65536 - (w as u32))
 }
 
 // Two words read as a signed number.
-fn say_signed_long(n: u32) {
+fn say_signed_long<W: Write>(writer: &mut W, n: u32) -> io::Result<()> {
     if n < 2147483648 {
-        say_long(n);
-        return;
+        return say_long(writer, n);
     }
-    say(b"-");
-    io::print_decimal(STDOUT_FILENO, 4294967296 - (n as u64));
+    say(writer, b"-")?;
+    let size = 4294967296 - (n as u64);
+    write!(writer, "{size}")
 }
 
 // The longest text of an item, 32 words.
@@ -64,11 +64,9 @@ fn shown(b: u8) -> u8 {
 }
 
 fn make_shown(text: &mut [u8]) {
-    let mut i: usize = 0;
-    while i < text.len() {
+    for i in 0..text.len() {
         let b = text[i];
         text[i] = shown(b);
-        i += 1;
     }
 }
 
@@ -86,58 +84,54 @@ fn trimmed(text: &[u8]) -> &[u8] {
 }
 
 // An X item's words as its characters.
-fn say_text(words: &[u16]) {
+fn say_text<W: Write>(writer: &mut W, words: &[u16]) -> io::Result<()> {
     if 32 < words.len() {
-        return;
+        return Ok(());
     }
     let mut room = text_room();
     lent::unpack(words, &mut room);
     make_shown(&mut room);
     let n = 2 * words.len();
-    say(b"\"");
-    say(trimmed(&room[..n]));
-    say(b"\"");
+    say(writer, b"\"")?;
+    say(writer, trimmed(&room[..n]))?;
+    say(writer, b"\"")
 }
 
 // An item's words, by its type: 1 signed, 2 unsigned, 3 characters.
-fn say_value(kind: u16, words: &[u16]) {
+fn say_value<W: Write>(writer: &mut W, kind: u16, words: &[u16]) -> io::Result<()> {
     if kind == 3 {
-        say_text(words);
-        return;
+        return say_text(writer, words);
     }
     let single = words.len() == 1;
     if kind == 1 {
         if single {
-            say_signed(word(words, 0));
-        } else {
-            say_signed_long(long_at(words, 0));
+            return say_signed(writer, word(words, 0));
         }
-        return;
+        return say_signed_long(writer, long_at(words, 0));
     }
     if single {
-        say_word(word(words, 0));
+        say_word(writer, word(words, 0))
     } else {
-        say_long(long_at(words, 0));
+        say_long(writer, long_at(words, 0))
     }
 }
 
 // An entry of set s, its items one after another.
-pub fn say_entry(root: &[u16], s: u16, entry: &[u16])
+pub fn say_entry<W: Write>(writer: &mut W, root: &[u16], s: u16, entry: &[u16]) -> io::Result<()>
     requires { 1 ≤ s }
 {
     let n = root::item_count(root, s);
     let mut at: usize = 0;
-    let mut j: u16 = 0;
-    while j < n {
-        j += 1;
-        let item = set_item(root, s, j);
+    for i in 0..n {
+        let item = set_item(root, s, i + 1);
         let size = item_length(root, item) as usize;
-        if 1 < j {
-            say(b" ");
+        if 0 < i {
+            say(writer, b" ")?;
         }
-        say_value(item_type(root, item), part(entry, at, size));
+        say_value(writer, item_type(root, item), part(entry, at, size))?;
         if at < 65536 {
             at += size;
         }
     }
+    Ok(())
 }
