@@ -271,6 +271,7 @@ pub extern "C" fn dbdelete(
 
 // Characters into words, the first of two in the high byte, blanks past the text's end.
 #[unsafe(no_mangle)]
+#[tactic(auto, using(crate::proofs::Laws::pack_code, crate::proofs::Laws::pack_result, crate::proofs::Laws::no_pack_code, crate::proofs::Laws::no_pack_result))]
 pub extern "C" fn dbpack(text: &[u8], words: &mut [u16]) -> u16
     ensures code { result ≡ (pack_lent text.now words.old).code }
     ensures words { words.new ≡ (pack_lent text.now words.old).result }
@@ -285,6 +286,7 @@ pub extern "C" fn dbpack(text: &[u8], words: &mut [u16]) -> u16
 
 // Words into characters; characters past them stay.
 #[unsafe(no_mangle)]
+#[tactic(auto, using(crate::proofs::Laws::unpack_code, crate::proofs::Laws::unpack_result, crate::proofs::Laws::no_unpack_code, crate::proofs::Laws::no_unpack_result))]
 pub extern "C" fn dbunpack(words: &[u16], text: &mut [u8]) -> u16
     ensures code { result ≡ (unpack_lent words.now text.old).code }
     ensures text { text.new ≡ (unpack_lent words.now text.old).result }
