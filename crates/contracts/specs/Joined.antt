@@ -21,7 +21,7 @@ use Rattle.spec.specs.Master.{find_key}
 use Rattle.spec.specs.Detail.{head_at}
 use Rattle.spec.specs.Cursor.{fresh, nonzero, reading, mode_good, value_good, path_chosen, record_for, readable, current_record}
 use Rattle.spec.specs.Calls.{Made, Done, Answer, answer, known, made, make, named_set, named_cursor, the_detail, entry_size, open_to_change, find_chain, find_on, find_steps, find, get_on, get_steps, get, put_in, put_on, put_steps, put, keeps_all, update_on, update_steps, update, delete_in, delete_on, delete_steps, delete}
-use Rattle.history.specs.Base.{Base, Call, a_find, a_get, a_put, a-update, a_delete, answered, after, new}
+use Rattle.history.specs.Base.{Base, Call, a_find, a_get, a_put, a_update, a_delete, answered, after, new}
 use Rattle.history.specs.Demand.{run_from, run, answers}
 use Rattle.history.specs.DemandAll.{Demand}
 use Rattle.history.specs.Theorem.{any_history}
@@ -155,7 +155,7 @@ module _ (root : List ℕ) (b : Base) (s : ℕ) where
         buffer = sym (no_buffer b.area b.cursors s [] _ (put_wordless root b.area b.cursors s entry));
       }
 
-  pub updates_work : (entry : List ℕ) (o : Changed) → Updates root b.area b.cursors s entry o → Works root b (a-update s entry) (changed o)
+  pub updates_work : (entry : List ℕ) (o : Changed) → Updates root b.area b.cursors s entry o → Works root b (a_update s entry) (changed o)
   unfolding answered update Updates
   updates_work entry o w =
       record {

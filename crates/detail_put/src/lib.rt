@@ -75,7 +75,7 @@ fn put_paths(
 ) -> PathsWent
     requires planned { Planned root.now plan }
     requires le_s { (1 ≤ s) × (s ≤ sets_of root.now) × (kind_of root.now s ≡ 3) × (d ≡ shape_in root.now s) × (d.cap ≤ 4095) }
-    ensures is { lined_out result.lining result.passed area.exit.now ≡ paths_put (detail_of root.now s) entry.now r (paths_of root.now s) 1 (record { area = area.entry.now; passed = none_passed }) }
+    ensures is { lined_out result.lining result.passed area.new ≡ paths_put (detail_of root.now s) entry.now r (paths_of root.now s) 1 (record { area = area.old; passed = none_passed }) }
     ensures back { Back area.old jr.old 0 (173 * paths_of root.now s) area.new jr.new result.count }
 {
     let mut passed = [0u16; 4];

@@ -133,7 +133,7 @@ module _ {s : Shape} {r k : ℕ} (d : k ≢ r) where
       go a p q (yes e) (no l) = ap (λ c. bit_of (get_or c (s.map + (k - 1) / 16) 0) (15 - (k - 1) % 16) ∷ []) (set_out a (s.map + (r - 1) / 16) _ (omega arith))
       go a p q (no e) l = ap (λ v. bit_of v (15 - (k - 1) % 16) ∷ []) (get_or-set_other a (s.map + (r - 1) / 16) (s.map + (k - 1) / 16) _ 0 (omega arith))
 
--- to a spot that the set does not have; to record 0; made only if a test holds (see Writers.by-if):
+-- to a spot that the set does not have; to record 0; made only if a test holds (see Writers.by_if):
 pub by_nobody : {w : Write} {x : Spot} → real (target w) ≡ false → Misses w x
 by_nobody {w} {x} e = record { leaves = λ a. ap (λ b. held b x) (apply_none a w e) }
 

@@ -30,14 +30,14 @@ pub record Base : Type 0 where
 pub data Call : Type 0 where
   a_find : (set item : ℕ) (value : List ℕ) → Call
   a_get : (set mode number : ℕ) (value buffer : List ℕ) → Call
-  a_put a-update : (set : ℕ) (entry : List ℕ) → Call
+  a_put a_update : (set : ℕ) (entry : List ℕ) → Call
   a_delete : (set : ℕ) → Call
 
 unfoldable pub answered : List ℕ → Base → Call → Answer
 answered root b (a_find s item value) = find root b.area b.cursors s item value
 answered root b (a_get s mode number value buffer) = get root b.area b.cursors s mode number value buffer
 answered root b (a_put s entry) = put root b.area b.cursors s entry
-answered root b (a-update s entry) = update root b.area b.cursors s entry
+answered root b (a_update s entry) = update root b.area b.cursors s entry
 answered root b (a_delete s) = delete root b.area b.cursors s
 
 unfoldable pub after : List ℕ → Base → Call → Base
@@ -69,7 +69,7 @@ happened root b (a_put t entry) s =
       | true ↦ came (record { rec = long (answered root b (a_put t entry)).status 2; entry = entry }) ∷ []
       | false ↦ []
     ]
-happened root b (a-update t entry) s = []
+happened root b (a_update t entry) s = []
 happened root b (a_delete t) s =
     elim (eqb t s && accepted (answered root b (a_delete t))) [ true ↦ gone (cursor_in b t).current ∷ [] | false ↦ [] ]
 
@@ -91,7 +91,7 @@ passed_on root b (a_put t entry) s p =
       | true ↦ word (answered root b (a_put t entry)).passed (p - 1)
       | false ↦ 0
     ]
-passed_on root b (a-update t entry) s p = 0
+passed_on root b (a_update t entry) s p = 0
 passed_on root b (a_delete t) s p = 0
 
 -- ---- the invariant

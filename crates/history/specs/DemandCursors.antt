@@ -28,7 +28,7 @@ use Rattle.spec.specs.Calls.{Done, answer, known, named_set, named_cursor, the_d
 use Rattle.history.specs.Chain.{All, ◌⨾◌}
 use Rattle.history.specs.Walk.{by_bool}
 use Rattle.history.specs.Ranges.{within_low, both}
-use Rattle.history.specs.Base.{Base, Call, a_find, a_get, a_put, a-update, a_delete, answered, after, new, cursor_in, IsSet}
+use Rattle.history.specs.Base.{Base, Call, a_find, a_get, a_put, a_update, a_delete, answered, after, new, cursor_in, IsSet}
 use Rattle.history.specs.Demand.{run_from, run}
 
 -- ---- what an accepted step has tested
@@ -243,7 +243,7 @@ module _ (root : List ℕ) where
   fit_after b (a_get t mode number value buffer) F s S e = left b.area b.cursors t buffer _
       (on_set b.area b.cursors t (λ v c. get_on v b.area c mode number value (length buffer)) (λ c f. get_fits (detail_of root t) b.area c f mode number value (length buffer))) s S.low e (F s S e)
   fit_after b (a_put t entry) F s S e = left b.area b.cursors t [] _ (on_set b.area b.cursors t (λ v c. put_on v b.area c entry) (λ c f. put_fits (detail_of root t) b.area c f entry)) s S.low e (F s S e)
-  fit_after b (a-update t entry) F s S e = left b.area b.cursors t [] _ (on_set b.area b.cursors t (λ v c. update_on v b.area c entry) (λ c f. update_fits (detail_of root t) b.area c f entry)) s S.low e (F s S e)
+  fit_after b (a_update t entry) F s S e = left b.area b.cursors t [] _ (on_set b.area b.cursors t (λ v c. update_on v b.area c entry) (λ c f. update_fits (detail_of root t) b.area c f entry)) s S.low e (F s S e)
   fit_after b (a_delete t) F s S e = left b.area b.cursors t [] _ (on_set b.area b.cursors t (λ v c. delete_on v b.area c) (λ c f. delete_fits (detail_of root t) b.area c f)) s S.low e (F s S e)
 
   fit_new : CursorsFit (new root)

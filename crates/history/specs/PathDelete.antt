@@ -18,7 +18,7 @@ use Rattle.spec.specs.Detail.{link_out, drop_automatic, hung, unhang}
 use Rattle.history.specs.Chain.{◌⨾◌}
 use Rattle.history.specs.History.{del}
 use Rattle.history.specs.PathStep as Step
-use Rattle.history.specs.PathInv.{fv, bv, chainOf, DelStep, inv_delete}
+use Rattle.history.specs.PathInv.{fv, bv, chain_by_key, DelStep, inv_delete}
 use Rattle.history.specs.PathLinks.{headed_both, headed_is}
 use Rattle.history.specs.Runs.{num_one}
 use Rattle.history.specs.Shapes.{Sane, In, Beside, beside_sym}
@@ -124,7 +124,7 @@ module _ {size : ℕ} {d : Shape} {p : Path} (S : Sane size d) (P : PathOk size 
   off_path e W =
       let key = (line_at d p a r).key in
       let h = head_in a p.to.shape k p.head in
-      let chain = chainOf line_record line_key same (above p) key xs in
+      let chain = chain_by_key line_record line_key same (above p) key xs in
       let i = line_on S P a xs I T r e in
       let some : 1 ≤ h.count = omega (arith, head_lines S P a xs I T W, length-map chain line_record, filled r (map line_record chain) i) in
       let L = links_of_line S P a xs I T r e in

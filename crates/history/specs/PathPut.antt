@@ -21,7 +21,7 @@ use Rattle.history.specs.Walk.{by_bool, Stop, stop, lost, walk, lead}
 use Rattle.history.specs.Sorted.{keep, sort}
 use Rattle.history.specs.History.{reported}
 use Rattle.history.specs.PathStep as Step
-use Rattle.history.specs.PathInv.{mine, chainOf, PutStep, all_chain, all_mapped, free_chain, inv_place, inv_put}
+use Rattle.history.specs.PathInv.{mine, chain_by_key, PutStep, all_chain, all_mapped, free_chain, inv_place, inv_put}
 use Rattle.history.specs.PathLinks.{headed_both, headed_is}
 use Rattle.history.specs.Runs.{num_one}
 use Rattle.history.specs.Ranges.{and_both, three}
@@ -212,12 +212,12 @@ module _ {size : ℕ} {d : Shape} {p : Path} (S : Sane size d) (P : PathOk size 
       let h = head_in a m k p.head in
       let x = line_of p entry r in
       let o : Free 0 0 r (map line_record xs) = not_line r T R dead in
-      let lc : length (chainOf line_record line_key same (above p) key xs) ≤ d.cap = omega (arith, head_lines S P a xs I T W, head_count S P a xs I T W) in
+      let lc : length (chain_by_key line_record line_key same (above p) key xs) ≤ d.cap = omega (arith, head_lines S P a xs I T W, head_count S P a xs I T W) in
       let u = inv_place line_record line_key same (above p) same_keys (path_order p) (pstore d p a) xs x d.cap (good S P a entry) (over S P a entry) I.inv o (seen_here W d) tests lc in
       let n = u.joins.near r (free_chain line_record (above p) r (mine line_record line_key same (above p) key) xs o) in
       let Lp : Link a d u.p = on_line u.p u.joins.p_in in
       let Lq : Link a d u.q = on_line u.q u.joins.q_in in
-      let N = lead (λ y. above p y x) (chainOf line_record line_key same (above p) key xs) in
+      let N = lead (λ y. above p y x) (chain_by_key line_record line_key same (above p) key xs) in
       let K = where_in W in
       record {
         area = link_in d p a k h r (record { behind = u.p; ahead = u.q; passed = N });
@@ -231,9 +231,9 @@ module _ {size : ℕ} {d : Shape} {p : Path} (S : Sane size d) (P : PathOk size 
         count = link_in_count S P a l k r u.p u.q N h K R Lp Lq n.0 n.1;
       }
     where
-      on_line : (j : ℕ) → (j ≡ 0) ⊎ Step.In j (map line_record (chainOf line_record line_key same (above p) (value p.search entry) xs)) → Link a d j
+      on_line : (j : ℕ) → (j ≡ 0) ⊎ Step.In j (map line_record (chain_by_key line_record line_key same (above p) (value p.search entry) xs)) → Link a d j
       on_line j (inl e) = inl e
-      on_line j (inr i) = inr (Step.all_in (λ z. alive a d z ≡ true) j (map line_record (chainOf line_record line_key same (above p) (value p.search entry) xs)) i
+      on_line j (inr i) = inr (Step.all_in (λ z. alive a d z ≡ true) j (map line_record (chain_by_key line_record line_key same (above p) (value p.search entry) xs)) i
           (all_chain line_record (above p) (λ z. alive a d z ≡ true) (mine line_record line_key same (above p) (value p.search entry)) xs (all_mapped (λ z. alive a d z ≡ true) line_record xs (all_map xs (λ y (t : Tied d p a y). t.live) T.each))))
 
 -- "0 for a path that is .. unsorted"

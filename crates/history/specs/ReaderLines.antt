@@ -24,7 +24,7 @@ use Rattle.spec.specs.Follow.{goes, taken, other}
 use Rattle.history.specs.Chain.{All, ◌⨾◌}
 use Rattle.history.specs.Walk.{by_bool}
 use Rattle.history.specs.PathStep.{path_delete}
-use Rattle.history.specs.PathInv.{chainOf, mine, clean_chain}
+use Rattle.history.specs.PathInv.{chain_by_key, mine, clean_chain}
 use Rattle.history.specs.PathLinks.{headed_is}
 use Rattle.history.specs.MasterKeys.{seen}
 use Rattle.history.specs.Shapes.{Sane}
@@ -56,7 +56,7 @@ module _ {size : ℕ} {d : Shape} {p : Path} (S : Sane size d) (P : PathOk size 
   unfolding pstore seen
   links_off =
       let k = (line_at d p a r).key in
-      let c = map line_record (chainOf line_record line_key same (above p) k xs) in
+      let c = map line_record (chain_by_key line_record line_key same (above p) k xs) in
       let v = (path_delete c r (line_on S P a xs I T r e) (clean_chain line_record (above p) (mine line_record line_key same (above p) k) xs I.inv.clean) (I.inv.chains k (line_present S P a xs I T r e))).self in (
         subst (λ j. j ≢ r) (headed_is _ (backs d p.links a) r (backs d p.links a r) some (λ n. refl)) v.0,
         subst (λ j. j ≢ r) (headed_is _ (fores d p.links a) r (fores d p.links a r) some (λ n. refl)) v.1,
@@ -72,10 +72,10 @@ module _ {size : ℕ} {d : Shape} {p : Path} (S : Sane size d) (P : PathOk size 
 
 -- ---- the record that a mode reads
 
-all_get_d : {A : Type 0} (P : A → Type 0) (xs : List A) (i : ℕ) (d : A) → All P xs → P d → P (get_or xs i d)
-all_get_d P [] i d h o = o
-all_get_d P (x ∷ xs) zero d h o = h.0
-all_get_d P (x ∷ xs) (suc i) d h o = all_get_d P xs i d h.1 o
+all_get_or : {A : Type 0} (P : A → Type 0) (xs : List A) (i : ℕ) (d : A) → All P xs → P d → P (get_or xs i d)
+all_get_or P [] i d h o = o
+all_get_or P (x ∷ xs) zero d h o = h.0
+all_get_or P (x ∷ xs) (suc i) d h o = all_get_or P xs i d h.1 o
 
 -- the cursor's own record, live
 pub record Current (a : Area) (d : Shape) (c : Cursor) (k : ℕ) : Type 0 where
@@ -170,7 +170,7 @@ module _ (root : List ℕ) (g : root_good root ≡ true) {a : Area} {L : Lines} 
     line_read C mode r key =
         let d = shape_of root s in
         let none : Ends (λ k. alive a d k ≡ true) (refuse NoMode) = refused NoMode (not_broken NoMode refl) in
-        all_get_d (λ how. Ends (λ k. alive a d k ≡ true) (record_for how d a c r key)) (readings (a_detail (detail_of root s))) mode no_mode
+        all_get_or (λ how. Ends (λ k. alive a d k ≡ true) (record_for how d a c r key)) (readings (a_detail (detail_of root s))) mode no_mode
         (none ⨾ by_current a d c h r ⨾ by_above a d c h r ⨾ by_below a d c h r ⨾ given_ends a d r ⨾ saved_ends a d c.fore ChainEnd refl C.fore ⨾ saved_ends a d c.back ChainStart refl C.back ⨾ tt) none
 
   -- ---- a master
@@ -181,7 +181,7 @@ module _ (root : List ℕ) (g : root_good root ≡ true) {a : Area} {L : Lines} 
     entry_read mode r key =
         let d = shape_of root s in
         let none : Ends (λ k. alive a d k ≡ true) (refuse NoMode) = refused NoMode (not_broken NoMode refl) in
-        all_get_d (λ how. Ends (λ k. alive a d k ≡ true) (record_for how d a c r key)) (readings (a_master (master_of root s) (heads_of root s))) mode no_mode
+        all_get_or (λ how. Ends (λ k. alive a d k ≡ true) (record_for how d a c r key)) (readings (a_master (master_of root s) (heads_of root s))) mode no_mode
         (none ⨾ by_current a d c h r ⨾ by_above a d c h r ⨾ by_below a d c h r ⨾ given_ends a d r ⨾ none ⨾ none ⨾ keyed_ends (master_fine root g s S D) (I.masters s S D) key ⨾ tt) none
 
 module _ (root : List ℕ) (g : root_good root ≡ true) {a : Area} {L : Lines} (I : AreaInv root a L) (s : ℕ) (S : IsSet root s) (r : ℕ) (l : alive a (shape_of root s) r ≡ true) where

@@ -106,10 +106,10 @@ module _ (root : List ℕ) (s : ℕ) where
                 (all_at (unused root after) (12 - 3 * n) (3 * (p - n)) a (omega arith) (omega arith))))
 
 -- ---- the counts of paths
-getD_zeros : (n k : ℕ) → get_or (replicate n zero) k zero ≡ zero
-getD_zeros zero k = refl
-getD_zeros (suc n) zero = refl
-getD_zeros (suc n) (suc k) = getD_zeros n k
+get_or_zeros : (n k : ℕ) → get_or (replicate n zero) k zero ≡ zero
+get_or_zeros zero k = refl
+get_or_zeros (suc n) zero = refl
+get_or_zeros (suc n) (suc k) = get_or_zeros n k
 
 module _ (root leads slots : List ℕ) where
   pub counted_start : leads ≡ replicate 16 0 → length slots ≡ 64 → Counted root 1 0 leads slots
@@ -118,9 +118,9 @@ module _ (root leads slots : List ℕ) where
       record {
         leads_long = rw e;
         slots_long = l;
-        led = λ m l h. rw (e, getD_zeros 16 (m - 1), leading_from_none root m 1);
+        led = λ m l h. rw (e, get_or_zeros 16 (m - 1), leading_from_none root m 1);
         slotted = λ t q a b c d f. absurd (omega arith);
-        small = λ k. rw (e, getD_zeros 16 k) (omega arith);
+        small = λ k. rw (e, get_or_zeros 16 k) (omega arith);
       }
 
   pub counted_told : (s p : ℕ) (b : Bool) → (b ≡ true → Counted root s p leads slots) → b ≡ true → Counted root s p leads slots
