@@ -3,7 +3,7 @@
 
 Every call of tests/vectors/calls-N.txt becomes a computed row: the prover works the definition on the words at entry and the
 row holds if status, passed numbers, cursors, area and buffer are those of calls-N.out. The rows are written as a crate in a
-repository of their own under target/definitions, a theorem for each stretch of calls, and proved there. A history with an
+repository of their own outside this one, a theorem for each stretch of calls, and proved there. A history with an
 answer that differs is named by its first line.
 
     tests/definitions.py [--file N] [--from K] [--histories H]   (default: file 1, from the first, 100 histories; 0 = all)
@@ -14,10 +14,11 @@ import re
 import shutil
 import subprocess
 import sys
+import tempfile
 import time
 
 TOP = os.path.dirname(os.path.dirname(os.path.abspath(__file__)))
-WORK = os.path.join(TOP, "target", "definitions")
+SAID = os.path.join(TOP, "target", "definitions")  # what the prover said
 ROWS = 40  # calls in one theorem: a declaration may take 50 million steps
 
 REPLAY = """-- Calls one after another, each with the answer that it must get.
@@ -206,6 +207,22 @@ start = record {{ root = {words(h.root)}; area = {area}; cursors = replicate 16 
     return text
 
 
+def repository(work, hs):
+    """A repository of spec and the rows of these histories."""
+    os.makedirs(os.path.join(work, "crates", "replay", "src"))
+    specs = os.path.join(work, "crates", "replay", "specs")
+    os.makedirs(specs)
+    shutil.copytree(os.path.join(TOP, "crates", "spec"), os.path.join(work, "crates", "spec"), ignore=shutil.ignore_patterns("must-fail", "out"))
+    subprocess.run(["git", "init", "-q", work], check=True)
+    open(os.path.join(work, "crates.txt"), "w").write("spec:\nreplay: spec\n")
+    open(os.path.join(work, "crates", "replay", "src", "lib.rt"), "w").write("// No function: the rows are in specs/.\n")
+    open(os.path.join(specs, "Replay.antt"), "w").write(REPLAY)
+    names = [f"History{k}" for k in range(len(hs))]
+    open(os.path.join(specs, "Lib.antt"), "w").write("".join(f"pub mod {n}\n" for n in ["Replay"] + names))
+    for k, h in enumerate(hs):
+        open(os.path.join(specs, f"History{k}.antt"), "w").write(module(k, h))
+
+
 def main():
     ask = argparse.ArgumentParser(description=__doc__, formatter_class=argparse.RawDescriptionHelpFormatter)
     ask.add_argument("--file", type=int, default=1, choices=(1, 2), help="which file of vectors")
@@ -216,30 +233,20 @@ def main():
     hs = hs[: opt.histories] if opt.histories else hs
     if not hs:
         sys.exit("definitions: no history there")
-    shutil.rmtree(WORK, ignore_errors=True)
-    os.makedirs(os.path.join(WORK, "crates", "replay", "src"))
-    specs = os.path.join(WORK, "crates", "replay", "specs")
-    os.makedirs(specs)
-    shutil.copytree(os.path.join(TOP, "crates", "spec"), os.path.join(WORK, "crates", "spec"), ignore=shutil.ignore_patterns("must-fail", "out"))
-    subprocess.run(["git", "init", "-q", WORK], check=True)
-    open(os.path.join(WORK, "crates.txt"), "w").write("spec:\nreplay: spec\n")
-    open(os.path.join(WORK, "crates", "replay", "src", "lib.rt"), "w").write("// No function: the rows are in specs/.\n")
-    open(os.path.join(specs, "Replay.antt"), "w").write(REPLAY)
-    names = [f"History{k}" for k in range(len(hs))]
-    open(os.path.join(specs, "Lib.antt"), "w").write("".join(f"pub mod {n}\n" for n in ["Replay"] + names))
-    for k, h in enumerate(hs):
-        open(os.path.join(specs, f"History{k}.antt"), "w").write(module(k, h))
     calls = sum(1 for h in hs for _, r in h.rows if not r.startswith(("poked", "cursored")))
     start = time.time()
-    got = subprocess.run(["rt", "check"], cwd=os.path.join(WORK, "crates", "replay"), capture_output=True, text=True)
+    with tempfile.TemporaryDirectory(prefix="definitions-") as work:
+        repository(work, hs)
+        got = subprocess.run(["rt", "check"], cwd=os.path.join(work, "crates", "replay"), capture_output=True, text=True)
     seconds = time.time() - start
     text = got.stdout + got.stderr
-    open(os.path.join(WORK, "out"), "w").write(text)
+    os.makedirs(os.path.dirname(SAID), exist_ok=True)
+    open(SAID, "w").write(text)
     wrong = sorted(set(re.findall(r"History(\d+)\.antt:\d+:\d+: error", text)), key=int)
     for k in wrong:
         print(f"definitions: calls-{opt.file}.txt, the history from line {hs[int(k)].line} on: an answer differs")
     if got.returncode or wrong:
-        print(f"definitions: NOT as the vectors say; the prover's words are in {os.path.relpath(os.path.join(WORK, 'out'), TOP)}")
+        print(f"definitions: NOT as the vectors say; the prover's words are in {os.path.relpath(SAID, TOP)}")
         sys.exit(1)
     print(f"definitions: {calls} calls in {len(hs)} histories of calls-{opt.file}.txt answered as calls-{opt.file}.out says, {seconds:.0f} s")
 

@@ -12,10 +12,11 @@ import re
 import shutil
 import subprocess
 import sys
+import tempfile
 
 TOP = os.path.dirname(os.path.dirname(os.path.abspath(__file__)))
 EDITS = os.path.join(TOP, "tests", "wrong")
-WORK = os.path.join(TOP, "target", "wrong")
+SAID = os.path.join(TOP, "target", "wrong")  # what the prover said of each
 LEFT_OUT = {"spec": ["Sample"], "history": ["DemandSample"]}
 
 
@@ -37,10 +38,8 @@ def parts(path):
     return file, pairs
 
 
-def repository(name):
+def repository(at):
     """A repository of spec and history alone, without the worked cases."""
-    at = os.path.join(WORK, name)
-    shutil.rmtree(at, ignore_errors=True)
     for crate, modules in LEFT_OUT.items():
         to = os.path.join(at, "crates", crate)
         shutil.copytree(os.path.join(TOP, "crates", crate), to, ignore=shutil.ignore_patterns("must-fail", "out"))
@@ -51,7 +50,6 @@ def repository(name):
         open(lib, "w").write("\n".join(kept) + "\n")
     open(os.path.join(at, "crates.txt"), "w").write("spec:\nhistory: spec\n")
     subprocess.run(["git", "init", "-q", at], check=True)
-    return at
 
 
 def checked(at, crate):
@@ -59,8 +57,14 @@ def checked(at, crate):
 
 
 def tried(name):
+    """Whether the definitions so changed are refused. The repository stands outside this one, where rt ci would find its files."""
+    with tempfile.TemporaryDirectory(prefix="wrong-definitions-") as at:
+        repository(at)
+        return tried_in(at, name)
+
+
+def tried_in(at, name):
     file, pairs = parts(os.path.join(EDITS, name + ".edit"))
-    at = repository(name)
     path = os.path.join(at, "crates", "spec", file or "")
     if not file or not pairs or not os.path.isfile(path):
         fail(2, f"{name}.edit names no file of crates/spec, or changes nothing")
@@ -72,15 +76,15 @@ def tried(name):
     open(path, "w").write(text)
     alone, got = checked(at, "spec"), checked(at, "history")
     out = got.stdout + got.stderr
-    open(os.path.join(at, "out"), "w").write(alone.stdout + alone.stderr + out)
+    os.makedirs(SAID, exist_ok=True)
+    open(os.path.join(SAID, name), "w").write(alone.stdout + alone.stderr + out)
     if alone.returncode:
-        fail(2, f"{name}: the changed definitions do not stand by themselves; see target/wrong/{name}/out")
+        fail(2, f"{name}: the changed definitions do not stand by themselves; see target/wrong/{name}")
     first = re.search(r"(specs/\w+\.antt:\d+):\d+: error: `([^`]+)`", out)
     if got.returncode == 0 or not first:
         print(f"wrong-definitions: {name}: NOT refused")
         return False
     print(f"wrong-definitions: {name}: refused, first at {first.group(1)} ({first.group(2)})", flush=True)
-    shutil.rmtree(os.path.join(at, "crates"), ignore_errors=True)
     return True
 
 
