@@ -312,29 +312,14 @@ pub fn turn<R: Files, W: Write>(
     let from = past(line, 0);
     let code = changes(word);
     if code < 20 {
-        return look(
-            rt,
-            writer,
-            code,
-            line,
-            from,
-            part(root, 0, d.root),
-            part(area, 0, d.area),
-            d,
-        );
+        let (own, base) = (part(root, 0, d.root), part(area, 0, d.area));
+        return look(rt, writer, code, line, from, own, base, d);
     }
     if code < 30 {
         let n = d.area;
         if n <= area.len() {
-            return change(
-                writer,
-                code,
-                line,
-                from,
-                part(root, 0, d.root),
-                &mut area[..n],
-                d,
-            );
+            let own = part(root, 0, d.root);
+            return change(writer, code, line, from, own, &mut area[..n], d);
         }
         return Ok(d);
     }

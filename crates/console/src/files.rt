@@ -268,7 +268,7 @@ fn put_number(name: &mut [u8], n: u32) {
 // A new file, or why there is none: another file has the name, or something else.
 enum Made<F> {
     New(F),
-    Taken,
+    Exists,
     Refused,
 }
 
@@ -283,7 +283,7 @@ fn create_new<R: Files>(rt: &R, name: &[u8]) -> Made<R::File> {
         Ok(file) => Made::New(file),
         Err(e) => {
             if e.kind() == ErrorKind::AlreadyExists {
-                Made::Taken
+                Made::Exists
             } else {
                 Made::Refused
             }
@@ -297,7 +297,7 @@ fn create_temp<R: Files>(rt: &R, new: &mut [u8]) -> Option<R::File> {
         put_number(new, n);
         match create_new(rt, new) {
             Made::New(file) => return Some(file),
-            Made::Taken => {}
+            Made::Exists => {}
             Made::Refused => return None,
         }
     }

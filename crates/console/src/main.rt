@@ -135,6 +135,7 @@ fn serve<R: Files, I: io::Read, W: Write>(
             say(writer, b"> ")?;
             say(writer, &line[..n])?;
             say(writer, b"\n")?;
+            writer.flush()?;
         }
         if r.whole {
             return commands::turn(rt, writer, &line[..n], root, area, spare, d);
