@@ -1,6 +1,6 @@
 -- What is known of a head, a pair of links or five synonym words that were read whole. Assumes nothing.
 use Rattle.std.specs.Prelude.{ℕ, ◌+◌, ◌≤◌, ◌<◌, ◌≡◌, refl, Bool, true, false, ◌&&◌, not, List, leb, eqb}
-use Rattle.std.proofs.Common.{sym, ◌∙◌, ap, subst, leb-true, le-leb}
+use Rattle.std.proofs.Common.{sym, ◌∙◌, subst, leb-true, le-leb}
 use Rattle.std.proofs.lemmas.Bool.{eqb-false, lt-leb}
 use Rattle.spec.specs.declared.Refusal.TheVariants.{Broken as BrokenLink}
 use Rattle.spec.specs.declared.Shape.{Shape}
@@ -8,11 +8,6 @@ use Rattle.spec.specs.declared.Head.{Head}
 use Rattle.spec.specs.declared.Links.{Links}
 use Rattle.spec.specs.Outcome.{Outcome, accept, refuse, ◌>>=◌}
 use Rattle.spec.specs.Area.{peek, peek_link, read, read_synonym, read_head, read_links, synonyms, synonym_count}
-use Rattle.area.specs.declared.HeadRead.{HeadRead}
-use Rattle.area.specs.declared.HeadRead.TheVariants.{Whole, Broken}
-use Rattle.area.specs.declared.LinksRead.{LinksRead}
-use Rattle.area.specs.declared.LinksRead.TheVariants.{Whole as Both, Broken as Torn}
-use Rattle.area.specs.Answers.{head_out, links_out}
 
 -- ---- what holds of an outcome's value, if there is one
 abbrev pub Then : {A : Type 0} → (A → Type 0) → Outcome A → Type 0
@@ -26,19 +21,6 @@ then_bind Q P (refuse why) f q h = tt
 
 pub then_told : {A : Type 0} (P : A → Type 0) (o : Outcome A) (y : A) → Then P o → o ≡ accept y → P y
 then_told P o y t e = subst (Then P) e t
-
--- ---- an answer and the outcome that it stands for
-pub head_whole : (h : HeadRead) (o : Outcome Head) (y : Head) → head_out h ≡ o → h ≡ Whole y → o ≡ accept y
-head_whole h o y e k = sym e ∙ ap head_out k
-
-pub head_broken : (h : HeadRead) (o : Outcome Head) → head_out h ≡ o → h ≡ Broken → o ≡ refuse BrokenLink
-head_broken h o e k = sym e ∙ ap head_out k
-
-pub links_whole : (l : LinksRead) (o : Outcome Links) (y : Links) → links_out l ≡ o → l ≡ Both y → o ≡ accept y
-links_whole l o y e k = sym e ∙ ap links_out k
-
-pub links_broken : (l : LinksRead) (o : Outcome Links) → links_out l ≡ o → l ≡ Torn → o ≡ refuse BrokenLink
-links_broken l o e k = sym e ∙ ap links_out k
 
 -- ---- one number
 read_case : (b : Bool) (limit n : ℕ) → leb n limit ≡ b → Then (λ m. (m ≡ n) × (m ≤ limit)) (elim b [ true ↦ accept n | false ↦ refuse BrokenLink ])
@@ -98,18 +80,8 @@ module _ (limit : ℕ) (s : Shape) (a : List ℕ) (r at : ℕ) where
       then_bind _ HeadFits (read limit (peek_link s a r (at + 3))) _ (read_then limit (peek_link s a r (at + 3))) (λ f t.
       record { count = p.1; back = q.1; fore = t.1; count_is = p.0; back_is = q.0; fore_is = t.0 })))
 
-  pub head_fits : (h : HeadRead) (y : Head) → head_out h ≡ read_head limit s a r at → h ≡ Whole y → HeadFits y
-  head_fits h y e k = then_told HeadFits (read_head limit s a r at) y read_head_then (head_whole h _ y e k)
-
-  module _ (h : HeadRead) (y : Head) (e : head_out h ≡ read_head limit s a r at) (k : h ≡ Whole y) where
-    pub head_count_fits : y.count ≤ limit
-    head_count_fits = (head_fits h y e k).count
-
-    pub head_back_fits : y.back ≤ limit
-    head_back_fits = (head_fits h y e k).back
-
-    pub head_fore_fits : y.fore ≤ limit
-    head_fore_fits = (head_fits h y e k).fore
+  pub head_fits : (y : Head) → read_head limit s a r at ≡ accept y → HeadFits y
+  head_fits y e = then_told HeadFits (read_head limit s a r at) y read_head_then e
 
 -- ---- a pair of links
 module _ (s : Shape) (a : List ℕ) (r at : ℕ) where
@@ -126,15 +98,8 @@ module _ (s : Shape) (a : List ℕ) (r at : ℕ) where
       then_bind _ LinksFit (read s.cap (peek_link s a r (at + 2))) _ (read_then s.cap (peek_link s a r (at + 2))) (λ f t.
       record { back = q.1; fore = t.1; back_is = q.0; fore_is = t.0 }))
 
-  pub links_fit : (l : LinksRead) (y : Links) → links_out l ≡ read_links s a r at → l ≡ Both y → LinksFit y
-  links_fit l y e k = then_told LinksFit (read_links s a r at) y read_links_then (links_whole l _ y e k)
-
-  module _ (l : LinksRead) (y : Links) (e : links_out l ≡ read_links s a r at) (k : l ≡ Both y) where
-    pub links_back_fits : y.back ≤ s.cap
-    links_back_fits = (links_fit l y e k).back
-
-    pub links_fore_fits : y.fore ≤ s.cap
-    links_fore_fits = (links_fit l y e k).fore
+  pub links_fit : (y : Links) → read_links s a r at ≡ accept y → LinksFit y
+  links_fit y e = then_told LinksFit (read_links s a r at) y read_links_then e
 
 -- ---- the five synonym words: within the master's capacity, and no link to its own record
 module _ (s : Shape) (a : List ℕ) (r : ℕ) where
@@ -156,21 +121,5 @@ module _ (s : Shape) (a : List ℕ) (r : ℕ) where
       then_bind _ SynonymsFit (read_synonym s.cap r (peek_link s a r 3)) _ (read_synonym_then s.cap r (peek_link s a r 3)) (λ f t.
       record { count = p.1; back = q.1; fore = t.1; back_other = q.2; fore_other = t.2; count_is = p.0; back_is = q.0; fore_is = t.0 })))
 
-  pub synonyms_fit : (h : HeadRead) (y : Head) → head_out h ≡ synonyms s a r → h ≡ Whole y → SynonymsFit y
-  synonyms_fit h y e k = then_told SynonymsFit (synonyms s a r) y synonyms_then (head_whole h _ y e k)
-
-  module _ (h : HeadRead) (y : Head) (e : head_out h ≡ synonyms s a r) (k : h ≡ Whole y) where
-    pub synonyms_count_fits : y.count ≤ s.cap
-    synonyms_count_fits = (synonyms_fit h y e k).count
-
-    pub synonyms_back_fits : y.back ≤ s.cap
-    synonyms_back_fits = (synonyms_fit h y e k).back
-
-    pub synonyms_fore_fits : y.fore ≤ s.cap
-    synonyms_fore_fits = (synonyms_fit h y e k).fore
-
-    pub synonyms_back_other : y.back ≡ r → ⊥
-    synonyms_back_other = (synonyms_fit h y e k).back_other
-
-    pub synonyms_fore_other : y.fore ≡ r → ⊥
-    synonyms_fore_other = (synonyms_fit h y e k).fore_other
+  pub synonyms_fit : (y : Head) → synonyms s a r ≡ accept y → SynonymsFit y
+  synonyms_fit y e = then_told SynonymsFit (synonyms s a r) y synonyms_then e

@@ -3,29 +3,14 @@
 // back.
 #![tactic(auto)]
 
-ghost use Rattle.std.specs.Prelude.{◌≡◌, true, ◌||◌, ◌&&◌, not, ◌+◌, ◌-◌, ◌*◌, ◌≤◌, ◌<◌, ◌^◌, length, eqb, leb};
-ghost use Rattle.spec.specs.Area.{map_place, map_bit, live as live_in, go_live, go_unused, place as place_of, peek as peek_in, peek_link as peek_link_in, peek_part as peek_part_in, poke as poke_in, poke_link as poke_link_in, mend as mend_in, blank as blank_in, copy_part, entry_at as entry_in, value_at as value_in, put_entry_at, mark as mark_in, freed as freed_in, set_mark as mark_set, set_freed as freed_set, read_head as head_in, read_links as links_in, peek_links as links_peeked, synonyms as synonyms_in, set_synonyms as synonyms_set};
+ghost use Rattle.std.specs.Prelude.{◌≡◌, true, IfOk, ◌||◌, ◌&&◌, not, ◌+◌, ◌-◌, ◌*◌, ◌≤◌, ◌<◌, ◌^◌, length, eqb, leb};
+ghost use Rattle.spec.specs.Area.{blank, copy_part, entry_at, freed, follow, go_live, go_unused, live, map_bit, map_place, mark, mend, peek, peek_link, peek_links, peek_part, place, poke, poke_link, put_entry_at, read, read_head, read_links, read_synonym, set_freed, set_mark, set_synonyms, synonyms, value_at};
 ghost use Rattle.journal.specs.Journal.{Back};
-ghost use Rattle.area.specs.Answers.{head_out, links_out};
 ghost use Rattle.area.specs.MapLaws.{Alike};
 
-use journal::{store, store_long, store_moved, store_run, store_zeros};
-use spec::{Field, Head, Links, Shape};
+use journal::Journal;
+use spec::{Field, Head, Links, Refusal, Shape};
 use words::{bit_off, bit_on, bit_set, long_at, part, word};
-
-// A head or five synonym words, read whole.
-#[derive(Clone, Copy)]
-pub enum HeadRead {
-    Whole(Head),
-    Broken,
-}
-
-// A pair of links, read whole.
-#[derive(Clone, Copy)]
-pub enum LinksRead {
-    Whole(Links),
-    Broken,
-}
 
 // The product of a record's number and a record's words.
 fn times(a: u32, b: u16) -> usize
@@ -36,15 +21,17 @@ fn times(a: u32, b: u16) -> usize
 }
 
 // Where record r begins.
+#[tactic(auto, unfolding(spec::specs::Area::place))]
 pub fn place(s: Shape, r: u32) -> usize
     requires { 1 ≤ r }
-    ensures { (result ≡ place_of s r) × (result ≤ 281474976579585) }
+    ensures { (result ≡ place s r) × (result ≤ 281474976579585) }
 {
     let t = times(r - 1, s.width);
     (s.records as usize) + t
 }
 
 // The word of the map that has record r's bit, and the bit's place in it: record 1 in the highest bit of the first word.
+#[tactic(auto, unfolding(spec::specs::Area::map_place))]
 fn map_word(s: Shape, r: u32) -> usize
     requires { 1 ≤ r }
     ensures { (result ≡ map_place s r) × (result < 2 ^ 33) }
@@ -52,6 +39,7 @@ fn map_word(s: Shape, r: u32) -> usize
     (s.map as usize) + ((r - 1) / 16) as usize
 }
 
+#[tactic(auto, unfolding(spec::specs::Area::map_bit))]
 fn map_bit_of(r: u32) -> u16
     requires { 1 ≤ r }
     ensures { (result ≡ map_bit r) × (result < 16) }
@@ -59,9 +47,10 @@ fn map_bit_of(r: u32) -> u16
     (15 - (r - 1) % 16) as u16
 }
 
+#[tactic(auto, unfolding(spec::specs::Area::live))]
 pub fn live(area: &[u16], s: Shape, r: u32) -> bool
     requires { 1 ≤ r }
-    ensures { result ≡ live_in s area.now r }
+    ensures { result ≡ live s area.now r }
 {
     let w = word(area, map_word(s, r));
     bit_set(w, map_bit_of(r))
@@ -81,118 +70,115 @@ pub fn word_alike(area: &[u16], s: Shape, r: u32, on: bool) -> bool
     }
 }
 
-// Whether a link leads to a live record, or nowhere: "follows one to an unused record" is answer 18.
-pub fn follow(area: &[u16], s: Shape, r: u32) -> bool
-    ensures { result ≡ (eqb r 0 || live_in s area.now r) }
+// A link leads to a live record, or nowhere: "follows one to an unused record" is answer 18.
+#[tactic(auto, unfolding(spec::specs::Area::follow))]
+pub fn follow(area: &[u16], s: Shape, r: u32) -> Result<(), Refusal>
+    ensures { result ≡ follow s area.now r }
 {
-    if r == 0 { true } else { live(area, s, r) }
+    if r == 0 || live(area, s, r) {
+        Ok(())
+    } else {
+        Err(Refusal::Broken)
+    }
 }
 
-pub fn mark_live(area: &mut [u16], jr: &mut [u64], n: usize, s: Shape, r: u32) -> usize
+#[tactic(auto, unfolding(spec::specs::Area::go_live))]
+pub fn mark_live(area: &mut [u16], jr: &mut Journal, s: Shape, r: u32)
     requires { 1 ≤ r }
     ensures is { area.new ≡ go_live s area.old r }
-    ensures back { Back area.old jr.old n 1 area.new jr.new result }
+    ensures back { Back area.old jr.old 1 area.new jr.new }
 {
     let at = map_word(s, r);
     let w = word(area, at);
-    store(area, jr, n, at, bit_on(w, map_bit_of(r)))
+    jr.store(area, at, bit_on(w, map_bit_of(r)));
 }
 
-pub fn mark_unused(area: &mut [u16], jr: &mut [u64], n: usize, s: Shape, r: u32) -> usize
+#[tactic(auto, unfolding(spec::specs::Area::go_unused))]
+pub fn mark_unused(area: &mut [u16], jr: &mut Journal, s: Shape, r: u32)
     requires { 1 ≤ r }
     ensures is { area.new ≡ go_unused s area.old r }
-    ensures back { Back area.old jr.old n 1 area.new jr.new result }
+    ensures back { Back area.old jr.old 1 area.new jr.new }
 {
     let at = map_word(s, r);
     let w = word(area, at);
-    store(area, jr, n, at, bit_off(w, map_bit_of(r)))
+    jr.store(area, at, bit_off(w, map_bit_of(r)));
 }
 
 // A word, a link and a run of words of record r, from place i in it on.
+#[tactic(auto, unfolding(spec::specs::Area::peek))]
 pub fn peek(area: &[u16], s: Shape, r: u32, i: u16) -> u16
     requires { 1 ≤ r }
-    ensures { result ≡ peek_in s area.now r i }
+    ensures { result ≡ peek s area.now r i }
 {
     let at = place(s, r);
     word(area, at + (i as usize))
 }
 
+#[tactic(auto, unfolding(spec::specs::Area::peek_link))]
 pub fn peek_link(area: &[u16], s: Shape, r: u32, i: u16) -> u32
     requires { 1 ≤ r }
-    ensures { result ≡ peek_link_in s area.now r i }
+    ensures { result ≡ peek_link s area.now r i }
 {
     let at = place(s, r);
     long_at(area, at + (i as usize))
 }
 
+#[tactic(auto, unfolding(spec::specs::Area::peek_part))]
 pub fn peek_part(area: &[u16], s: Shape, r: u32, i: u16, n: u16) -> &[u16]
     requires { 1 ≤ r }
-    ensures { result.now ≡ peek_part_in s area.now r i n }
+    ensures { result.now ≡ peek_part s area.now r i n }
 {
     let at = place(s, r);
     part(area, at + (i as usize), n as usize)
 }
 
-pub fn poke(area: &mut [u16], jr: &mut [u64], n: usize, s: Shape, r: u32, i: u16, v: u16) -> usize
+#[tactic(auto, unfolding(spec::specs::Area::poke))]
+pub fn poke(area: &mut [u16], jr: &mut Journal, s: Shape, r: u32, i: u16, v: u16)
     requires { 1 ≤ r }
-    ensures is { area.new ≡ poke_in s area.old r i v }
-    ensures back { Back area.old jr.old n 1 area.new jr.new result }
+    ensures is { area.new ≡ poke s area.old r i v }
+    ensures back { Back area.old jr.old 1 area.new jr.new }
 {
     let at = place(s, r);
-    store(area, jr, n, at + (i as usize), v)
+    jr.store(area, at + (i as usize), v);
 }
 
-pub fn poke_link(
-    area: &mut [u16],
-    jr: &mut [u64],
-    n: usize,
-    s: Shape,
-    r: u32,
-    i: u16,
-    v: u32,
-) -> usize
+#[tactic(auto, unfolding(spec::specs::Area::poke_link))]
+pub fn poke_link(area: &mut [u16], jr: &mut Journal, s: Shape, r: u32, i: u16, v: u32)
     requires { 1 ≤ r }
-    ensures is { area.new ≡ poke_link_in s area.old r i v }
-    ensures back { Back area.old jr.old n 2 area.new jr.new result }
+    ensures is { area.new ≡ poke_link s area.old r i v }
+    ensures back { Back area.old jr.old 2 area.new jr.new }
 {
     let at = place(s, r);
-    store_long(area, jr, n, at + (i as usize), v)
+    jr.store_long(area, at + (i as usize), v);
 }
 
 // A link in a neighbour, if there is one.
-pub fn mend(area: &mut [u16], jr: &mut [u64], n: usize, s: Shape, r: u32, i: u16, v: u32) -> usize
-    ensures is { area.new ≡ mend_in s area.old r i v }
-    ensures back { Back area.old jr.old n 2 area.new jr.new result }
+#[tactic(auto, unfolding(spec::specs::Area::mend))]
+pub fn mend(area: &mut [u16], jr: &mut Journal, s: Shape, r: u32, i: u16, v: u32)
+    ensures is { area.new ≡ mend s area.old r i v }
+    ensures back { Back area.old jr.old 2 area.new jr.new }
 {
-    if r == 0 {
-        n
-    } else {
-        poke_link(area, jr, n, s, r, i, v)
+    if r != 0 {
+        poke_link(area, jr, s, r, i, v);
     }
 }
 
 // "Unused record: zeros": len words of record r from place i on.
-pub fn blank(
-    area: &mut [u16],
-    jr: &mut [u64],
-    n: usize,
-    s: Shape,
-    r: u32,
-    i: u16,
-    len: u16,
-) -> usize
+#[tactic(auto, unfolding(spec::specs::Area::blank, spec::specs::Area::poke_part))]
+pub fn blank(area: &mut [u16], jr: &mut Journal, s: Shape, r: u32, i: u16, len: u16)
     requires { 1 ≤ r }
-    ensures is { area.new ≡ blank_in s area.old r i len }
-    ensures back { Back area.old jr.old n len area.new jr.new result }
+    ensures is { area.new ≡ blank s area.old r i len }
+    ensures back { Back area.old jr.old len area.new jr.new }
 {
     let at = place(s, r);
-    store_zeros(area, jr, n, at + (i as usize), len as usize)
+    jr.store_zeros(area, at + (i as usize), len as usize);
 }
 
 // An item of the entry in record r, and the whole entry.
+#[tactic(auto, unfolding(spec::specs::Area::value_at, spec::specs::Area::peek_part))]
 pub fn value_at(area: &[u16], s: Shape, f: Field, r: u32) -> &[u16]
     requires { 1 ≤ r }
-    ensures { result.now ≡ value_in s f area.now r }
+    ensures { result.now ≡ value_at s f area.now r }
 {
     let at = place(s, r);
     part(
@@ -202,176 +188,166 @@ pub fn value_at(area: &[u16], s: Shape, f: Field, r: u32) -> &[u16]
     )
 }
 
+#[tactic(auto, unfolding(spec::specs::Area::entry_at))]
 pub fn entry_at(area: &[u16], s: Shape, r: u32) -> &[u16]
     requires { 1 ≤ r }
-    ensures { result.now ≡ entry_in s area.now r }
+    ensures { result.now ≡ entry_at s area.now r }
 {
     peek_part(area, s, r, s.front, s.entry)
 }
 
-pub fn put_entry(
-    area: &mut [u16],
-    jr: &mut [u64],
-    n: usize,
-    s: Shape,
-    r: u32,
-    entry: &[u16],
-) -> usize
+#[tactic(auto, unfolding(spec::specs::Area::put_entry_at, spec::specs::Area::poke_part))]
+pub fn put_entry(area: &mut [u16], jr: &mut Journal, s: Shape, r: u32, entry: &[u16])
     requires { (1 ≤ r) × (length entry.now ≤ 65535) }
     ensures is { area.new ≡ put_entry_at s area.old r entry.now }
-    ensures back { Back area.old jr.old n (length entry.now) area.new jr.new result }
+    ensures back { Back area.old jr.old (length entry.now) area.new jr.new }
 {
     let at = place(s, r);
-    store_run(area, jr, n, at + (s.front as usize), entry)
+    jr.store_run(area, at + (s.front as usize), entry);
 }
 
 // The words of record `from`, from place i in it on, in record `to`: "heads and entry are copied unread".
+#[tactic(auto, unfolding(spec::specs::Area::copy_part, spec::specs::Area::poke_part, spec::specs::Area::peek_part))]
 pub fn carry_part(
     area: &mut [u16],
-    jr: &mut [u64],
-    n: usize,
+    jr: &mut Journal,
     s: Shape,
     from: u32,
     to: u32,
     i: u16,
     len: u16,
-) -> usize
+)
     requires { (1 ≤ from) × (1 ≤ to) × (len ≤ 557) }
     ensures is { area.new ≡ copy_part s area.old from to i len }
-    ensures back { Back area.old jr.old n len area.new jr.new result }
+    ensures back { Back area.old jr.old len area.new jr.new }
 {
     let a = place(s, from);
     let b = place(s, to);
-    store_moved(
-        area,
-        jr,
-        n,
-        a + (i as usize),
-        b + (i as usize),
-        len as usize,
-    )
+    jr.store_moved(area, a + (i as usize), b + (i as usize), len as usize);
 }
 
 // A set's two leading words.
+#[tactic(auto, unfolding(spec::specs::Area::mark))]
 pub fn mark(area: &[u16], s: Shape) -> u16
-    ensures { result ≡ mark_in s area.now }
+    ensures { result ≡ mark s area.now }
 {
     word(area, s.start as usize)
 }
 
+#[tactic(auto, unfolding(spec::specs::Area::freed))]
 pub fn freed(area: &[u16], s: Shape) -> u16
-    ensures { result ≡ freed_in s area.now }
+    ensures { result ≡ freed s area.now }
 {
     word(area, (s.start as usize) + 1)
 }
 
-pub fn set_mark(area: &mut [u16], jr: &mut [u64], n: usize, s: Shape, v: u16) -> usize
-    ensures is { area.new ≡ mark_set s area.old v }
-    ensures back { Back area.old jr.old n 1 area.new jr.new result }
+#[tactic(auto, unfolding(spec::specs::Area::set_mark))]
+pub fn set_mark(area: &mut [u16], jr: &mut Journal, s: Shape, v: u16)
+    ensures is { area.new ≡ set_mark s area.old v }
+    ensures back { Back area.old jr.old 1 area.new jr.new }
 {
-    store(area, jr, n, s.start as usize, v)
+    jr.store(area, s.start as usize, v);
 }
 
-pub fn set_freed(area: &mut [u16], jr: &mut [u64], n: usize, s: Shape, v: u16) -> usize
-    ensures is { area.new ≡ freed_set s area.old v }
-    ensures back { Back area.old jr.old n 1 area.new jr.new result }
+#[tactic(auto, unfolding(spec::specs::Area::set_freed))]
+pub fn set_freed(area: &mut [u16], jr: &mut Journal, s: Shape, v: u16)
+    ensures is { area.new ≡ set_freed s area.old v }
+    ensures back { Back area.old jr.old 1 area.new jr.new }
 {
-    store(area, jr, n, (s.start as usize) + 1, v)
+    jr.store(area, (s.start as usize) + 1, v);
+}
+
+// Answer 18: "a link above C", a count above its set's capacity.
+#[tactic(auto, unfolding(spec::specs::Area::read))]
+fn read(limit: u16, n: u32) -> Result<u32, Refusal>
+    ensures is { result ≡ read limit n }
+    ensures within { IfOk result (λ m. m ≤ limit) }
+{
+    if n <= limit as u32 {
+        Ok(n)
+    } else {
+        Err(Refusal::Broken)
+    }
+}
+
+// The same of a number that is one word.
+pub fn read_word(limit: u16, n: u16) -> Result<u16, Refusal>
+    ensures is { result ≡ read limit n }
+    ensures within { IfOk result (λ m. m ≤ limit) }
+{
+    Ok(read(limit, n as u32)? as u16)
+}
+
+// Such a link, or "a synonym link to its own record".
+#[tactic(auto, unfolding(spec::specs::Area::read_synonym))]
+fn read_synonym(limit: u16, r: u32, link: u32) -> Result<u32, Refusal>
+    ensures is { result ≡ read_synonym limit r link }
+    ensures within { IfOk result (λ m. m ≤ limit) }
+{
+    if link <= limit as u32 && link != r {
+        Ok(link)
+    } else {
+        Err(Refusal::Broken)
+    }
 }
 
 // A head, read whole, against the detail's capacity: count, last, first.
-pub fn read_head(area: &[u16], limit: u16, s: Shape, r: u32, at: u16) -> HeadRead
+#[tactic(auto, unfolding(spec::specs::Area::read_head), using(spec::specs::Follow::goes, spec::specs::Follow::stops))]
+pub fn read_head(area: &[u16], limit: u16, s: Shape, r: u32, at: u16) -> Result<Head, Refusal>
     requires { (1 ≤ r) × (at ≤ 65000) }
-    ensures { head_out result ≡ head_in limit s area.now r at }
+    ensures is { result ≡ read_head limit s area.now r at }
+    ensures within { IfOk result (λ h. (h.count ≤ limit) × (h.back ≤ limit) × (h.fore ≤ limit)) }
 {
-    let c = limit as u32;
-    let count = peek(area, s, r, at);
-    let back = peek_link(area, s, r, at + 1);
-    let fore = peek_link(area, s, r, at + 3);
-    if count <= limit {
-        if back <= c {
-            if fore <= c {
-                return HeadRead::Whole(Head {
-                    count: count,
-                    back: back,
-                    fore: fore,
-                });
-            }
-        }
-    }
-    HeadRead::Broken
+    let count = read_word(limit, peek(area, s, r, at))?;
+    let back = read(limit, peek_link(area, s, r, at + 1))?;
+    let fore = read(limit, peek_link(area, s, r, at + 3))?;
+    Ok(Head { count, back, fore })
 }
 
 // The pair of links at a place in line r: backward, forward.
+#[tactic(auto, unfolding(spec::specs::Area::peek_links))]
 pub fn peek_links(area: &[u16], s: Shape, r: u32, at: u16) -> Links
     requires { (1 ≤ r) × (at ≤ 65000) }
-    ensures { result ≡ links_peeked s area.now r at }
+    ensures { result ≡ peek_links s area.now r at }
 {
-    let back = peek_link(area, s, r, at);
-    let fore = peek_link(area, s, r, at + 2);
     Links {
-        back: back,
-        fore: fore,
+        back: peek_link(area, s, r, at),
+        fore: peek_link(area, s, r, at + 2),
     }
 }
 
-pub fn read_links(area: &[u16], s: Shape, r: u32, at: u16) -> LinksRead
+// The same, read whole.
+#[tactic(auto, unfolding(spec::specs::Area::read_links), using(spec::specs::Follow::goes, spec::specs::Follow::stops))]
+pub fn read_links(area: &[u16], s: Shape, r: u32, at: u16) -> Result<Links, Refusal>
     requires { (1 ≤ r) × (at ≤ 65000) }
-    ensures { links_out result ≡ links_in s area.now r at }
+    ensures is { result ≡ read_links s area.now r at }
+    ensures within { IfOk result (λ l. (l.back ≤ s.cap) × (l.fore ≤ s.cap)) }
 {
-    let c = s.cap as u32;
-    let back = peek_link(area, s, r, at);
-    let fore = peek_link(area, s, r, at + 2);
-    if back <= c {
-        if fore <= c {
-            return LinksRead::Whole(Links {
-                back: back,
-                fore: fore,
-            });
-        }
-    }
-    LinksRead::Broken
-}
-
-// A number of the five synonym words that is no good link: above the capacity, or to its own record.
-fn link_good(cap: u16, r: u32, link: u32) -> bool
-    ensures { result ≡ (leb link cap && not (eqb link r)) }
-{
-    if link <= (cap as u32) {
-        link != r
-    } else {
-        false
-    }
+    let back = read(s.cap, peek_link(area, s, r, at))?;
+    let fore = read(s.cap, peek_link(area, s, r, at + 2))?;
+    Ok(Links { back, fore })
 }
 
 // The five synonym words of record r, read whole.
-pub fn synonyms(area: &[u16], s: Shape, r: u32) -> HeadRead
+#[tactic(auto, unfolding(spec::specs::Area::synonyms, spec::specs::Area::synonym_count), using(spec::specs::Follow::goes, spec::specs::Follow::stops))]
+pub fn synonyms(area: &[u16], s: Shape, r: u32) -> Result<Head, Refusal>
     requires { 1 ≤ r }
-    ensures { head_out result ≡ synonyms_in s area.now r }
+    ensures is { result ≡ synonyms s area.now r }
+    ensures within { IfOk result (λ y. (y.count ≤ s.cap) × (y.back ≤ s.cap) × (y.fore ≤ s.cap)) }
 {
-    let count = peek(area, s, r, 0);
-    let back = peek_link(area, s, r, 1);
-    let fore = peek_link(area, s, r, 3);
-    if count <= s.cap {
-        if link_good(s.cap, r, back) {
-            if link_good(s.cap, r, fore) {
-                return HeadRead::Whole(Head {
-                    count: count,
-                    back: back,
-                    fore: fore,
-                });
-            }
-        }
-    }
-    HeadRead::Broken
+    let count = read_word(s.cap, peek(area, s, r, 0))?;
+    let back = read_synonym(s.cap, r, peek_link(area, s, r, 1))?;
+    let fore = read_synonym(s.cap, r, peek_link(area, s, r, 3))?;
+    Ok(Head { count, back, fore })
 }
 
-pub fn set_synonyms(area: &mut [u16], jr: &mut [u64], n: usize, s: Shape, r: u32, y: Head) -> usize
+#[tactic(auto, unfolding(spec::specs::Area::set_synonyms), using(journal::specs::BackLaws::back_three))]
+pub fn set_synonyms(area: &mut [u16], jr: &mut Journal, s: Shape, r: u32, y: Head)
     requires { 1 ≤ r }
-    ensures is { area.new ≡ synonyms_set s area.old r y }
-    ensures back { Back area.old jr.old n 5 area.new jr.new result }
+    ensures is { area.new ≡ set_synonyms s area.old r y }
+    ensures back { Back area.old jr.old 5 area.new jr.new }
 {
-    let a = poke(area, jr, n, s, r, 0, y.count);
-    let b = poke_link(area, jr, a, s, r, 1, y.back);
-    poke_link(area, jr, b, s, r, 3, y.fore)
+    poke(area, jr, s, r, 0, y.count);
+    poke_link(area, jr, s, r, 1, y.back);
+    poke_link(area, jr, s, r, 3, y.fore);
 }

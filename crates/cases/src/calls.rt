@@ -1,141 +1,112 @@
 // The six calls, as lines of the script ask for them. What a call may change is kept before it, so that every word that it
 // changed can be written.
-use crate::command::{lay_words, number_at, short_at};
-use crate::{report, rooms};
-use session::Session;
+use crate::report::{Lent, made, told};
+use crate::stage::Stage;
+use session::{Answer, Session};
 use std::io;
 use std::io::Write;
-use words::{lay, part};
 
-pub fn new<W: Write>(writer: &mut W, root: &[u16], area: &mut [u16]) -> io::Result<()> {
-    let mut kept_words = rooms::area();
-    let kept: &mut [u16] = &mut kept_words;
-    lay(kept, 0, area);
-    let st = engine::make(root, area);
-    report::made(writer, st, kept, area)
-}
+impl Stage {
+    pub fn make<W: Write>(&mut self, writer: &mut W) -> io::Result<()> {
+        let kept = self.area.clone()?;
+        let status = engine::make(&self.root, &mut self.area);
+        made(writer, status, &kept, &self.area)
+    }
 
-// A find changes no lent slice.
-pub fn find<W: Write>(
-    writer: &mut W,
-    line: &[u8],
-    root: &[u16],
-    area: &[u16],
-    s: Session,
-) -> io::Result<Session> {
-    let mut value_room = rooms::words();
-    let words: &mut [u16] = &mut value_room;
-    let laid = lay_words(line, 3, words, 0);
-    let n = laid.end;
-    let set = short_at(line, 1);
-    let item = short_at(line, 2);
-    let r = engine::find(root, area, s, set, item, part(words, 0, n));
-    report::told(writer, r, s, false, b"", area, area)
-}
+    // A find changes no lent slice.
+    pub fn find<W: Write>(
+        &mut self,
+        writer: &mut W,
+        set: u16,
+        item: u16,
+        value: &[u16],
+    ) -> io::Result<()> {
+        let answer = engine::find(&self.root, &self.area, self.session, set, item, value);
+        let lent = Lent {
+            put: false,
+            what: "",
+            before: &[],
+            after: &[],
+        };
+        told(writer, &answer, &self.session.cursors, lent)?;
+        self.session = answer.session;
+        Ok(())
+    }
 
-// A get changes the buffer, if any slice.
-fn get_by<W: Write>(
-    writer: &mut W,
-    line: &[u8],
-    root: &[u16],
-    area: &[u16],
-    s: Session,
-    value: &[u16],
-    buffer: &mut [u16],
-) -> io::Result<Session> {
-    let mut kept_words = rooms::words();
-    let kept: &mut [u16] = &mut kept_words;
-    lay(kept, 0, buffer);
-    let set = short_at(line, 1);
-    let mode = short_at(line, 2);
-    let number = number_at(line, 3);
-    let r = engine::get(root, area, s, set, mode, number, value, buffer);
-    report::told(writer, r, s, false, b"  buffer ", kept, buffer)
-}
+    // A get changes the buffer, if any slice.
+    pub fn get<W: Write>(
+        &mut self,
+        writer: &mut W,
+        set: u16,
+        mode: u16,
+        number: u32,
+        value: &[u16],
+    ) -> io::Result<()> {
+        let kept = self.buffer.clone()?;
+        let answer = engine::get(
+            &self.root,
+            &self.area,
+            self.session,
+            set,
+            mode,
+            number,
+            value,
+            &mut self.buffer,
+        );
+        let lent = Lent {
+            put: false,
+            what: "  buffer ",
+            before: &kept,
+            after: &self.buffer,
+        };
+        told(writer, &answer, &self.session.cursors, lent)?;
+        self.session = answer.session;
+        Ok(())
+    }
 
-pub fn get<W: Write>(
-    writer: &mut W,
-    line: &[u8],
-    root: &[u16],
-    area: &[u16],
-    s: Session,
-    buffer: &mut [u16],
-) -> io::Result<Session> {
-    let mut value_room = rooms::words();
-    let words: &mut [u16] = &mut value_room;
-    let laid = lay_words(line, 4, words, 0);
-    let n = laid.end;
-    get_by(writer, line, root, area, s, part(words, 0, n), buffer)
-}
+    // A call that changes the area, if any slice.
+    fn change_area<W: Write, F: FnOnce(&[u16], &mut [u16], Session) -> Answer>(
+        &mut self,
+        writer: &mut W,
+        put: bool,
+        call: F,
+    ) -> io::Result<()>
+        requires { F.IsAlwaysCallable call }
+    {
+        let kept = self.area.clone()?;
+        let answer = call(&self.root, &mut self.area, self.session);
+        let lent = Lent {
+            put,
+            what: "  area ",
+            before: &kept,
+            after: &self.area,
+        };
+        told(writer, &answer, &self.session.cursors, lent)?;
+        self.session = answer.session;
+        Ok(())
+    }
 
-fn put_entry<W: Write>(
-    writer: &mut W,
-    root: &[u16],
-    area: &mut [u16],
-    s: Session,
-    set: u16,
-    entry: &[u16],
-) -> io::Result<Session> {
-    let mut kept_words = rooms::area();
-    let kept: &mut [u16] = &mut kept_words;
-    lay(kept, 0, area);
-    let r = engine::put(root, area, s, set, entry);
-    report::told(writer, r, s, true, b"  area ", kept, area)
-}
+    pub fn put<W: Write>(&mut self, writer: &mut W, set: u16, entry: &[u16]) -> io::Result<()> {
+        self.change_area(
+            writer,
+            true,
+            |root, area, s| engine::put(root, area, s, set, entry),
+        )
+    }
 
-fn update_entry<W: Write>(
-    writer: &mut W,
-    root: &[u16],
-    area: &mut [u16],
-    s: Session,
-    set: u16,
-    entry: &[u16],
-) -> io::Result<Session> {
-    let mut kept_words = rooms::area();
-    let kept: &mut [u16] = &mut kept_words;
-    lay(kept, 0, area);
-    let r = engine::update(root, area, s, set, entry);
-    report::told(writer, r, s, false, b"  area ", kept, area)
-}
+    pub fn update<W: Write>(&mut self, writer: &mut W, set: u16, entry: &[u16]) -> io::Result<()> {
+        self.change_area(
+            writer,
+            false,
+            |root, area, s| engine::update(root, area, s, set, entry),
+        )
+    }
 
-pub fn put<W: Write>(
-    writer: &mut W,
-    line: &[u8],
-    root: &[u16],
-    area: &mut [u16],
-    s: Session,
-) -> io::Result<Session> {
-    let mut entry_room = rooms::words();
-    let words: &mut [u16] = &mut entry_room;
-    let laid = lay_words(line, 2, words, 0);
-    let n = laid.end;
-    put_entry(writer, root, area, s, short_at(line, 1), part(words, 0, n))
-}
-
-pub fn update<W: Write>(
-    writer: &mut W,
-    line: &[u8],
-    root: &[u16],
-    area: &mut [u16],
-    s: Session,
-) -> io::Result<Session> {
-    let mut entry_room = rooms::words();
-    let words: &mut [u16] = &mut entry_room;
-    let laid = lay_words(line, 2, words, 0);
-    let n = laid.end;
-    update_entry(writer, root, area, s, short_at(line, 1), part(words, 0, n))
-}
-
-pub fn delete<W: Write>(
-    writer: &mut W,
-    line: &[u8],
-    root: &[u16],
-    area: &mut [u16],
-    s: Session,
-) -> io::Result<Session> {
-    let mut kept_words = rooms::area();
-    let kept: &mut [u16] = &mut kept_words;
-    lay(kept, 0, area);
-    let r = engine::delete(root, area, s, short_at(line, 1));
-    report::told(writer, r, s, false, b"  area ", kept, area)
+    pub fn delete<W: Write>(&mut self, writer: &mut W, set: u16) -> io::Result<()> {
+        self.change_area(
+            writer,
+            false,
+            |root, area, s| engine::delete(root, area, s, set),
+        )
+    }
 }

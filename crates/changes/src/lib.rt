@@ -1,133 +1,72 @@
 // The changing calls, put, update and delete, up to their outcome. Where the outcome is a refusal, the area is as it was.
 #![tactic(auto)]
 
-ghost use Rattle.std.specs.Prelude.{◌≡◌, [], ◌≤◌};
-ghost use Rattle.spec.specs.Root.{sets as sets_in, kind as kind_in};
-ghost use Rattle.spec.specs.Layout.{a_master, master_of as master_in, heads_of as heads_in};
-ghost use Rattle.spec.specs.Detail.{none_passed};
-ghost use Rattle.spec.specs.Calls.{put_on as put_so, put_steps as steps_put, update_on as updated_on, update_steps as steps_update, delete_on as deleted_on, delete_steps as steps_delete};
-ghost use Rattle.root.specs.Plan.{Planned};
-ghost use Rattle.session.specs.Answers.{done_out, Settable};
-ghost use Rattle.master_calls.specs.Answers.{Unchanged};
+ghost use Rattle.std.specs.Prelude.{◌≡◌, [], ◌≤◌, IfOk, IfErr};
+ghost use Rattle.spec.specs.Calls.{put_steps, update_steps, delete_steps};
+ghost use Rattle.session.specs.Answers.{done_out};
 
-use detail_calls::{Worked, delete_detail, put_detail, update_detail};
-use layout::master_of;
+use detail_calls::{delete_detail, put_detail, update_detail};
+use layout::known;
 use master_calls::{delete_master, put_master, update_master};
-use named::{Naming, name_cursor};
-use root::Plan;
-use session::{Outcome, Session};
-use spec::Cursor;
+use named::{Named, name_cursor};
+use session::{Good, Session};
+use spec::Refusal;
 
-// A master passes no lines.
-fn put_in_master(
-    root: &[u16],
-    plan: Plan,
-    set: u16,
-    area: &mut [u16],
-    c: Cursor,
-    entry: &[u16],
-) -> Worked
-    requires planned { Planned root.now plan }
-    requires le_set { (1 ≤ set) × (set ≤ sets_in root.now) }
-    requires fact { kind_in root.now set ≡ 3 → ⊥ }
-    ensures is { done_out result.outcome result.passed area.new [] ≡ put_so (a_master (master_in root.now set) (heads_in root.now set)) area.old c entry.now }
-    ensures kept { Unchanged result.outcome area.old area.new }
-{
-    let m = master_of(root, plan, set);
-    Worked {
-        outcome: put_master(area, m, c, entry),
-        passed: [0u16; 4],
-    }
-}
-
+#[tactic(auto, unfolding(spec::specs::Calls::put_steps), using(named::specs::NamedLaws::ends_unknown, named::specs::NamedLaws::ends_unchosen))]
 pub fn put_steps(
-    root: &[u16],
+    words: &[u16],
     area: &mut [u16],
-    session: Session,
+    session: &Session,
     set: u16,
     entry: &[u16],
-) -> Worked
-    ensures is { done_out result.outcome result.passed area.new [] ≡ steps_put root.now area.old session.cursors set entry.now }
-    ensures kept { Unchanged result.outcome area.old area.new }
-    ensures set { Settable result.outcome set }
+) -> Result<Good, Refusal>
+    ensures is { done_out result area.new [] ≡ put_steps words.now area.old session.now.cursors set entry.now }
+    ensures kept { IfErr result (λ _. area.new ≡ area.old) }
+    ensures set { IfOk result (λ _. (1 ≤ set) × (set ≤ 16)) }
 {
-    let b = name_cursor(root, area, session, set);
-    let plan = b.plan;
-    let c = b.cursor;
-    let n = b.naming;
-    match n {
-        Naming::Refused(why) => Worked {
-            outcome: Outcome::Refused(why),
-            passed: [0u16; 4],
-        },
-        Naming::Master => put_in_master(root, plan, set, area, c, entry),
-        Naming::Detail => put_detail(root, plan, set, area, c, entry),
+    let root = known(words, area.len())?;
+    let (named, c) = name_cursor(&root, session, set)?;
+    match named {
+        Named::Master(m) => put_master(&m, area, c, entry),
+        Named::Detail(d) => put_detail(&d, area, c, entry),
     }
 }
 
-fn update_in_master(
-    root: &[u16],
-    plan: Plan,
-    set: u16,
-    area: &mut [u16],
-    c: Cursor,
-    entry: &[u16],
-) -> Outcome
-    requires planned { Planned root.now plan }
-    requires le_set { (1 ≤ set) × (set ≤ sets_in root.now) }
-    requires fact { kind_in root.now set ≡ 3 → ⊥ }
-    ensures is { done_out result none_passed area.new [] ≡ updated_on (a_master (master_in root.now set) (heads_in root.now set)) area.old c entry.now }
-    ensures kept { Unchanged result area.old area.new }
-{
-    let m = master_of(root, plan, set);
-    update_master(area, m, c, entry)
-}
-
+#[tactic(auto, unfolding(spec::specs::Calls::update_steps), using(named::specs::NamedLaws::ends_unknown, named::specs::NamedLaws::ends_unchosen))]
 pub fn update_steps(
-    root: &[u16],
+    words: &[u16],
     area: &mut [u16],
-    session: Session,
+    session: &Session,
     set: u16,
     entry: &[u16],
-) -> Outcome
-    ensures is { done_out result none_passed area.new [] ≡ steps_update root.now area.old session.cursors set entry.now }
-    ensures kept { Unchanged result area.old area.new }
-    ensures set { Settable result set }
+) -> Result<Good, Refusal>
+    ensures is { done_out result area.new [] ≡ update_steps words.now area.old session.now.cursors set entry.now }
+    ensures kept { IfErr result (λ _. area.new ≡ area.old) }
+    ensures set { IfOk result (λ _. (1 ≤ set) × (set ≤ 16)) }
 {
-    let b = name_cursor(root, area, session, set);
-    let plan = b.plan;
-    let c = b.cursor;
-    let n = b.naming;
-    match n {
-        Naming::Refused(why) => Outcome::Refused(why),
-        Naming::Master => update_in_master(root, plan, set, area, c, entry),
-        Naming::Detail => update_detail(root, plan, set, area, c, entry),
+    let root = known(words, area.len())?;
+    let (named, c) = name_cursor(&root, session, set)?;
+    match named {
+        Named::Master(m) => update_master(&m, area, c, entry),
+        Named::Detail(d) => update_detail(&d, area, c, entry),
     }
 }
 
-fn delete_in_master(root: &[u16], plan: Plan, set: u16, area: &mut [u16], c: Cursor) -> Outcome
-    requires planned { Planned root.now plan }
-    requires le_set { (1 ≤ set) × (set ≤ sets_in root.now) }
-    requires fact { kind_in root.now set ≡ 3 → ⊥ }
-    ensures is { done_out result none_passed area.new [] ≡ deleted_on (a_master (master_in root.now set) (heads_in root.now set)) area.old c }
-    ensures kept { Unchanged result area.old area.new }
+#[tactic(auto, unfolding(spec::specs::Calls::delete_steps), using(named::specs::NamedLaws::ends_unknown, named::specs::NamedLaws::ends_unchosen))]
+pub fn delete_steps(
+    words: &[u16],
+    area: &mut [u16],
+    session: &Session,
+    set: u16,
+) -> Result<Good, Refusal>
+    ensures is { done_out result area.new [] ≡ delete_steps words.now area.old session.now.cursors set }
+    ensures kept { IfErr result (λ _. area.new ≡ area.old) }
+    ensures set { IfOk result (λ _. (1 ≤ set) × (set ≤ 16)) }
 {
-    let m = master_of(root, plan, set);
-    delete_master(root, set, area, m, c)
-}
-
-pub fn delete_steps(root: &[u16], area: &mut [u16], session: Session, set: u16) -> Outcome
-    ensures is { done_out result none_passed area.new [] ≡ steps_delete root.now area.old session.cursors set }
-    ensures kept { Unchanged result area.old area.new }
-    ensures set { Settable result set }
-{
-    let b = name_cursor(root, area, session, set);
-    let plan = b.plan;
-    let c = b.cursor;
-    let n = b.naming;
-    match n {
-        Naming::Refused(why) => Outcome::Refused(why),
-        Naming::Master => delete_in_master(root, plan, set, area, c),
-        Naming::Detail => delete_detail(root, plan, set, area, c),
+    let root = known(words, area.len())?;
+    let (named, c) = name_cursor(&root, session, set)?;
+    match named {
+        Named::Master(m) => delete_master(&m, area, c),
+        Named::Detail(d) => delete_detail(&d, area, c),
     }
 }

@@ -1,184 +1,111 @@
 // What a command asks of the engine, read from its line and found good.
-use crate::values::{take_entry, take_value};
-use crate::wanted::{is_end, want_long, want_word};
-use std::io;
-use std::io::Write;
+ghost use Rattle.std.specs.Prelude.{◌≤◌, IsTrue};
 
-// The set, and beside it what the command names: an item, a mode, a record; and how many words were given.
-#[derive(Clone, Copy)]
-pub struct Asked {
-    pub ok: bool,
+use crate::failed::Failed;
+use crate::rest::{Complaint, Rest};
+use crate::values::take_value;
+use screen::Item;
+
+// The chain that a find names: a set and its search item.
+#[derive(Clone, Copy, Debug)]
+pub struct Chain {
     pub set: u16,
     pub item: u16,
+}
+
+// What a get names: a set, a mode by its number, as the C interface has it, and for mode 4 a record.
+#[derive(Clone, Copy, Debug)]
+pub struct Get {
+    pub set: u16,
     pub mode: u16,
-    pub number: u32,
-    pub size: usize,
+    pub record: u32,
 }
 
-fn no() -> Asked {
-    Asked {
-        ok: false,
-        set: 0,
-        item: 0,
-        mode: 0,
-        number: 0,
-        size: 0,
-    }
+fn has_set(root: &[u16], s: u16) -> bool
+    ensures { IsTrue result → 1 ≤ s }
+{
+    s != 0 && s <= root::sets(root)
 }
 
-fn of_set(set: u16, size: usize) -> Asked {
-    Asked {
-        ok: true,
-        set,
-        item: 0,
-        mode: 0,
-        number: 0,
-        size,
-    }
+fn has_item(root: &[u16], item: u16) -> bool {
+    item != 0 && item <= root::items(root)
 }
 
 // SET
-pub fn ask_set<W: Write>(writer: &mut W, line: &[u8], from: usize) -> io::Result<Asked> {
-    let s = want_word(writer, line, from, b"the set")?;
-    if s.ok {
-        if is_end(writer, line, s.next)? {
-            return Ok(of_set(s.value, 0));
-        }
-    }
-    Ok(no())
+pub fn ask_set<'a>(mut rest: Rest<'a>) -> Result<u16, Complaint<'a>> {
+    let set = rest.word("the set")?;
+    rest.end()?;
+    Ok(set)
 }
 
-// SET VALUE..
-pub fn ask_entry<W: Write>(
-    writer: &mut W,
+// SET VALUE.., a value for each item of the set. For a set that the root doesn't have the line is left unread: the engine says
+// so.
+pub fn ask_entry<'a>(
     root: &[u16],
-    line: &[u8],
-    from: usize,
-    out: &mut [u16],
-) -> io::Result<Asked> {
-    let s = want_word(writer, line, from, b"the set")?;
-    if s.ok {
-        let e = take_entry(writer, root, s.value, line, s.next, out)?;
-        if e.ok {
-            if is_end(writer, line, e.next)? {
-                return Ok(of_set(s.value, e.size));
-            }
+    mut rest: Rest<'a>,
+    entry: &mut Vec<u16>,
+) -> Result<u16, Failed<'a>> {
+    let set = rest.word("the set")?;
+    if has_set(root, set) {
+        for j in 1..=root::item_count(root, set) {
+            take_value(Item::of_set(root, set, j), &mut rest, entry)?;
         }
-        return Ok(no());
+        rest.end()?;
     }
-    Ok(no())
-}
-
-// Whether the root has an item.
-fn has_item(root: &[u16], item: u16) -> bool {
-    if item == 0 {
-        return false;
-    }
-    item <= root::items(root)
+    Ok(set)
 }
 
 // The value of an item, and the end of the line; of an item that the root doesn't have no words: the engine says so.
-fn ask_value<W: Write>(
-    writer: &mut W,
+fn ask_value<'a>(
     root: &[u16],
-    a: Asked,
-    line: &[u8],
-    from: usize,
-    out: &mut [u16],
-) -> io::Result<Asked> {
-    if has_item(root, a.item) {
-        let v = take_value(writer, root, a.item, line, from, out, 0)?;
-        if v.ok {
-            if is_end(writer, line, v.next)? {
-                let mut b = a;
-                b.size = v.size;
-                return Ok(b);
-            }
-        }
-        return Ok(no());
+    item: u16,
+    rest: &mut Rest<'a>,
+    value: &mut Vec<u16>,
+) -> Result<(), Failed<'a>> {
+    if has_item(root, item) {
+        take_value(Item::new(root, item), rest, value)?;
+        rest.end()?;
     }
-    Ok(a)
+    Ok(())
 }
 
 // SET ITEM VALUE
-pub fn ask_chain<W: Write>(
-    writer: &mut W,
+pub fn ask_chain<'a>(
     root: &[u16],
-    line: &[u8],
-    from: usize,
-    out: &mut [u16],
-) -> io::Result<Asked> {
-    let s = want_word(writer, line, from, b"the set")?;
-    if s.ok {
-        let i = want_word(writer, line, s.next, b"the search item")?;
-        if i.ok {
-            let mut a = of_set(s.value, 0);
-            a.item = i.value;
-            return ask_value(writer, root, a, line, i.next, out);
-        }
-    }
-    Ok(no())
+    mut rest: Rest<'a>,
+    value: &mut Vec<u16>,
+) -> Result<Chain, Failed<'a>> {
+    let set = rest.word("the set")?;
+    let item = rest.word("the search item")?;
+    ask_value(root, item, &mut rest, value)?;
+    Ok(Chain { set, item })
 }
 
 // The key item of set s; 0 for a set that the root doesn't have, and for a detail.
 fn key_of(root: &[u16], s: u16) -> u16 {
-    if s == 0 {
-        return 0;
-    }
-    if root::sets(root) < s {
-        return 0;
-    }
-    root::key_item(root, s)
-}
-
-// What a mode wants further: 4 a record, 7 a key, the others nothing.
-fn ask_mode<W: Write>(
-    writer: &mut W,
-    root: &[u16],
-    a: Asked,
-    line: &[u8],
-    from: usize,
-    out: &mut [u16],
-) -> io::Result<Asked> {
-    if a.mode == 7 {
-        let mut b = a;
-        b.item = key_of(root, a.set);
-        return ask_value(writer, root, b, line, from, out);
-    }
-    if a.mode == 4 {
-        let r = want_long(writer, line, from, b"the record")?;
-        if r.ok {
-            if is_end(writer, line, r.next)? {
-                let mut b = a;
-                b.number = r.value;
-                return Ok(b);
-            }
-        }
-        return Ok(no());
-    }
-    if is_end(writer, line, from)? {
-        Ok(a)
+    if has_set(root, s) {
+        root::key_item(root, s)
     } else {
-        Ok(no())
+        0
     }
 }
 
-// SET MODE, then a record or a key
-pub fn ask_get<W: Write>(
-    writer: &mut W,
+// SET MODE, then a record for mode 4, a key for mode 7, and nothing for the others
+pub fn ask_get<'a>(
     root: &[u16],
-    line: &[u8],
-    from: usize,
-    out: &mut [u16],
-) -> io::Result<Asked> {
-    let s = want_word(writer, line, from, b"the set")?;
-    if s.ok {
-        let m = want_word(writer, line, s.next, b"the mode")?;
-        if m.ok {
-            let mut a = of_set(s.value, 0);
-            a.mode = m.value;
-            return ask_mode(writer, root, a, line, m.next, out);
+    mut rest: Rest<'a>,
+    key: &mut Vec<u16>,
+) -> Result<Get, Failed<'a>> {
+    let set = rest.word("the set")?;
+    let mode = rest.word("the mode")?;
+    let mut record = 0;
+    match mode {
+        4 => {
+            record = rest.long("the record")?;
+            rest.end()?;
         }
+        7 => ask_value(root, key_of(root, set), &mut rest, key)?,
+        _ => rest.end()?,
     }
-    Ok(no())
+    Ok(Get { set, mode, record })
 }

@@ -1,298 +1,191 @@
 // The calls of the engine, as commands: each is read whole, then called, and what it answered is told.
-use crate::asked::{ask_chain, ask_entry, ask_get, ask_set};
-use crate::desk::{Desk, answered};
-use crate::values::entry_room;
-use screen::{refused, say, say_entry, say_long, say_word};
+use crate::asked::{Chain, Get, ask_chain, ask_entry, ask_get, ask_set};
+use crate::desk::{Desk, Status};
+use crate::failed::Failed;
+use crate::rest::Rest;
+use screen::{Refused, say_entry};
 use session::{Answer, Session};
-use std::io;
 use std::io::Write;
-use words::{long_at, part, word};
+use std::{fmt, io};
+use words::part;
 
-// The condition word of a status.
-fn condition(status: [u16; 10]) -> u16 {
-    word(&status, 0)
+// A number of lines, in words.
+#[derive(Clone, Copy)]
+struct Lines(u32);
+
+impl fmt::Display for Lines {
+    fn fmt<W: fmt::Write>(&self, f: &mut fmt::Formatter<W>) -> fmt::Result {
+        match self.0 {
+            1 => write!(f, "1 line"),
+            n => write!(f, "{n} lines"),
+        }
+    }
 }
 
-fn record_of(status: [u16; 10]) -> u32 {
-    long_at(&status, 2)
-}
+// A mode is a number, as the C interface has it: 5 forward along a chain, 6 back.
+pub const FORWARD: u16 = 5;
+
+pub const BACKWARD: u16 = 6;
 
 // An entry that was read, after its record.
 fn say_read<W: Write>(
     writer: &mut W,
     root: &[u16],
-    s: u16,
-    status: [u16; 10],
+    set: u16,
+    status: Status,
     entry: &[u16],
 ) -> io::Result<()> {
-    say_long(writer, record_of(status))?;
-    say(writer, b": ")?;
-    if 0 < s {
-        say_entry(writer, root, s, part(entry, 0, word(&status, 1) as usize))?;
+    write!(writer, "{}: ", status.record())?;
+    if 0 < set {
+        say_entry(writer, root, set, part(entry, 0, status.size() as usize))?;
     }
     Ok(())
 }
 
-fn say_lines<W: Write>(writer: &mut W, n: u32) -> io::Result<()> {
-    say_long(writer, n)?;
-    if n == 1 {
-        say(writer, b" line")
-    } else {
-        say(writer, b" lines")
+impl Desk {
+    // What a call answered becomes the desk's.
+    fn answered(&mut self, answer: Answer) -> Result<Status, Refused> {
+        self.session = answer.session;
+        self.status = Status(answer.status);
+        self.status.accepted()
     }
-}
 
-fn told_find<W: Write>(writer: &mut W, status: [u16; 10]) -> io::Result<()> {
-    let why = condition(status);
-    if why != 0 {
-        return refused(writer, why);
+    pub fn find<'a, W: Write>(&mut self, writer: &mut W, rest: Rest<'a>) -> Result<(), Failed<'a>> {
+        let mut value = Vec::new(self.alloc);
+        let Chain { set, item } = ask_chain(&self.root, rest, &mut value)?;
+        let answer = engine::find(&self.root, &self.area, self.session, set, item, &value);
+        let status = self.answered(answer)?;
+        let lines = Lines(status.number());
+        let (first, last) = (status.fore(), status.back());
+        writeln!(writer, "{lines} on the chain, first {first}, last {last}")?;
+        Ok(())
     }
-    say_lines(writer, long_at(&status, 4))?;
-    say(writer, b" on the chain, first ")?;
-    say_long(writer, long_at(&status, 8))?;
-    say(writer, b", last ")?;
-    say_long(writer, long_at(&status, 6))?;
-    say(writer, b"\n")
-}
 
-pub fn find<W: Write>(
-    writer: &mut W,
-    line: &[u8],
-    from: usize,
-    root: &[u16],
-    area: &[u16],
-    d: Desk,
-) -> io::Result<Desk> {
-    let mut room = entry_room();
-    let a = ask_chain(writer, root, line, from, &mut room)?;
-    if a.ok {
-        let r = engine::find(root, area, d.session, a.set, a.item, part(&room, 0, a.size));
-        let status = r.status;
-        told_find(writer, status)?;
-        return Ok(answered(d, status, r.session));
-    }
-    Ok(d)
-}
-
-fn told_get<W: Write>(
-    writer: &mut W,
-    root: &[u16],
-    s: u16,
-    status: [u16; 10],
-    entry: &[u16],
-) -> io::Result<()> {
-    let why = condition(status);
-    if why != 0 {
-        return refused(writer, why);
-    }
-    say(writer, b"record ")?;
-    say_read(writer, root, s, status, entry)?;
-    say(writer, b"\n")
-}
-
-pub fn get<W: Write>(
-    writer: &mut W,
-    line: &[u8],
-    from: usize,
-    root: &[u16],
-    area: &[u16],
-    d: Desk,
-) -> io::Result<Desk> {
-    let mut room = entry_room();
-    let mut entry = entry_room();
-    let a = ask_get(writer, root, line, from, &mut room)?;
-    if a.ok {
-        let key = part(&room, 0, a.size);
-        let r = engine::get(
-            root, area, d.session, a.set, a.mode, a.number, key, &mut entry,
+    pub fn get<'a, W: Write>(&mut self, writer: &mut W, rest: Rest<'a>) -> Result<(), Failed<'a>> {
+        let mut key = Vec::new(self.alloc);
+        let Get { set, mode, record } = ask_get(&self.root, rest, &mut key)?;
+        let mut entry = [0u16; 512];
+        let answer = engine::get(
+            &self.root,
+            &self.area,
+            self.session,
+            set,
+            mode,
+            record,
+            &key,
+            &mut entry,
         );
-        let status = r.status;
-        told_get(writer, root, a.set, status, &entry)?;
-        return Ok(answered(d, status, r.session));
+        let status = self.answered(answer)?;
+        write!(writer, "record ")?;
+        say_read(writer, &self.root, set, status, &entry)?;
+        writeln!(writer)?;
+        Ok(())
     }
-    Ok(d)
-}
 
-// Reads the next line of a chain and draws it; answers the cursors, and whether there was one.
-fn draw_line<W: Write>(
-    writer: &mut W,
-    root: &[u16],
-    area: &[u16],
-    s: Session,
-    set: u16,
-    mode: u16,
-) -> io::Result<Answer> {
-    let mut entry = entry_room();
-    let r = engine::get(root, area, s, set, mode, 0, &[], &mut entry);
-    let status = r.status;
-    let why = condition(status);
-    if why == 0 {
-        say(writer, b" -> ")?;
-        say_read(writer, root, set, status, &entry)?;
-    } else if why != 14 {
-        if why != 15 {
-            say(writer, b" ")?;
-            refused(writer, why)?;
+    // The next line of a chain, read and drawn: the cursors past it, none where the chain ends or can't be read.
+    fn draw_line<W: Write>(
+        &self,
+        writer: &mut W,
+        s: Session,
+        set: u16,
+        mode: u16,
+    ) -> io::Result<Option<Session>> {
+        let mut entry = [0u16; 512];
+        let answer = engine::get(&self.root, &self.area, s, set, mode, 0, &[], &mut entry);
+        match Status(answer.status).accepted() {
+            Ok(status) => {
+                write!(writer, " -> ")?;
+                say_read(writer, &self.root, set, status, &entry)?;
+                Ok(Some(answer.session))
+            }
+            Err(Refused(14 | 15)) => Ok(None),
+            Err(refused) => {
+                writeln!(writer, " {refused}")?;
+                Ok(None)
+            }
         }
     }
-    Ok(r)
-}
 
-// The lines of a chain that was found, one after another, mode 5 forward and 6 backward. The person's own cursors stay.
-fn draw_chain<W: Write>(
-    writer: &mut W,
-    root: &[u16],
-    area: &[u16],
-    found: Session,
-    set: u16,
-    mode: u16,
-) -> io::Result<()> {
-    let mut s = found;
-    for _ in 0..4096 {
-        let r = draw_line(writer, root, area, s, set, mode)?;
-        s = r.session;
-        let status = r.status;
-        if condition(status) != 0 {
-            break;
+    // A chain drawn as a line of records, forward or backward. The person's own cursors stay.
+    pub fn chain<'a, W: Write>(
+        &self,
+        writer: &mut W,
+        rest: Rest<'a>,
+        mode: u16,
+    ) -> Result<(), Failed<'a>> {
+        let mut value = Vec::new(self.alloc);
+        let Chain { set, item } = ask_chain(&self.root, rest, &mut value)?;
+        let found = engine::find(&self.root, &self.area, self.session, set, item, &value);
+        let status = Status(found.status).accepted()?;
+        write!(writer, "{}", Lines(status.number()))?;
+        let mut cursors = found.session;
+        for _ in 0..4096 {
+            match self.draw_line(writer, cursors, set, mode)? {
+                Some(next) => cursors = next,
+                None => break,
+            }
         }
+        writeln!(writer)?;
+        Ok(())
     }
-    say(writer, b"\n")
-}
 
-// A chain drawn as a line of records.
-pub fn chain<W: Write>(
-    writer: &mut W,
-    line: &[u8],
-    from: usize,
-    root: &[u16],
-    area: &[u16],
-    d: Desk,
-    mode: u16,
-) -> io::Result<()> {
-    let mut room = entry_room();
-    let a = ask_chain(writer, root, line, from, &mut room)?;
-    if a.ok {
-        let r = engine::find(root, area, d.session, a.set, a.item, part(&room, 0, a.size));
-        let status = r.status;
-        let why = condition(status);
-        if why == 0 {
-            say_lines(writer, long_at(&status, 4))?;
-            draw_chain(writer, root, area, r.session, a.set, mode)?;
-        } else {
-            refused(writer, why)?;
+    // The lines passed on each sorted path of set s.
+    fn say_passed<W: Write>(&self, writer: &mut W, s: u16, passed: [u16; 4]) -> io::Result<()> {
+        if s == 0 {
+            return Ok(());
         }
-    }
-    Ok(())
-}
-
-// The lines passed on each sorted path of set s.
-fn say_passed<W: Write>(writer: &mut W, root: &[u16], s: u16, passed: [u16; 4]) -> io::Result<()> {
-    if s == 0 {
-        return Ok(());
-    }
-    let n = root::path_count(root, s);
-    for i in 0..n {
-        let p = i + 1;
-        if root::path_sort(root, s, p) != 0 {
-            say(writer, b", passed ")?;
-            say_word(writer, word(&passed, i as usize))?;
-            say(writer, b" on path ")?;
-            say_word(writer, p)?;
+        for p in 1..=root::path_count(&self.root[..], s) {
+            if root::path_sort(&self.root[..], s, p) != 0 {
+                let lines = words::word(&passed, p as usize - 1);
+                write!(writer, ", passed {lines} on path {p}")?;
+            }
         }
+        Ok(())
     }
-    Ok(())
-}
 
-fn told_put<W: Write>(
-    writer: &mut W,
-    root: &[u16],
-    s: u16,
-    status: [u16; 10],
-    passed: [u16; 4],
-) -> io::Result<()> {
-    let why = condition(status);
-    if why != 0 {
-        return refused(writer, why);
+    pub fn put<'a, W: Write>(&mut self, writer: &mut W, rest: Rest<'a>) -> Result<(), Failed<'a>> {
+        let mut entry = Vec::new(self.alloc);
+        let set = ask_entry(&self.root, rest, &mut entry)?;
+        let answer = engine::put(&self.root, &mut self.area, self.session, set, &entry);
+        let passed = answer.passed;
+        let status = self.answered(answer)?;
+        write!(writer, "put as record {}", status.record())?;
+        self.say_passed(writer, set, passed)?;
+        writeln!(writer)?;
+        Ok(())
     }
-    say(writer, b"put as record ")?;
-    say_long(writer, record_of(status))?;
-    say_passed(writer, root, s, passed)?;
-    say(writer, b"\n")
-}
 
-pub fn put<W: Write>(
-    writer: &mut W,
-    line: &[u8],
-    from: usize,
-    root: &[u16],
-    area: &mut [u16],
-    d: Desk,
-) -> io::Result<Desk> {
-    let mut room = entry_room();
-    let a = ask_entry(writer, root, line, from, &mut room)?;
-    if a.ok {
-        let r = engine::put(root, area, d.session, a.set, part(&room, 0, a.size));
-        let status = r.status;
-        let passed = r.passed;
-        told_put(writer, root, a.set, status, passed)?;
-        return Ok(answered(d, status, r.session));
+    pub fn update<'a, W: Write>(
+        &mut self,
+        writer: &mut W,
+        rest: Rest<'a>,
+    ) -> Result<(), Failed<'a>> {
+        let mut entry = Vec::new(self.alloc);
+        let set = ask_entry(&self.root, rest, &mut entry)?;
+        let answer = engine::update(&self.root, &mut self.area, self.session, set, &entry);
+        self.answered(answer)?;
+        writeln!(writer, "updated")?;
+        Ok(())
     }
-    Ok(d)
-}
 
-// A call that answers no more than that it was accepted.
-fn told<W: Write>(writer: &mut W, status: [u16; 10], done: &[u8]) -> io::Result<()> {
-    let why = condition(status);
-    if why == 0 {
-        say(writer, done)
-    } else {
-        refused(writer, why)
+    pub fn delete<'a, W: Write>(
+        &mut self,
+        writer: &mut W,
+        rest: Rest<'a>,
+    ) -> Result<(), Failed<'a>> {
+        let set = ask_set(rest)?;
+        let answer = engine::delete(&self.root, &mut self.area, self.session, set);
+        self.answered(answer)?;
+        writeln!(writer, "deleted")?;
+        Ok(())
     }
-}
 
-pub fn update<W: Write>(
-    writer: &mut W,
-    line: &[u8],
-    from: usize,
-    root: &[u16],
-    area: &mut [u16],
-    d: Desk,
-) -> io::Result<Desk> {
-    let mut room = entry_room();
-    let a = ask_entry(writer, root, line, from, &mut room)?;
-    if a.ok {
-        let r = engine::update(root, area, d.session, a.set, part(&room, 0, a.size));
-        let status = r.status;
-        told(writer, status, b"updated\n")?;
-        return Ok(answered(d, status, r.session));
+    // An empty base, and fresh cursors.
+    pub fn make<'a, W: Write>(&mut self, writer: &mut W) -> Result<(), Failed<'a>> {
+        self.status = Status(engine::make(&self.root, &mut self.area));
+        self.status.accepted()?;
+        self.session = Session::default();
+        writeln!(writer, "an empty base")?;
+        Ok(())
     }
-    Ok(d)
-}
-
-pub fn delete<W: Write>(
-    writer: &mut W,
-    line: &[u8],
-    from: usize,
-    root: &[u16],
-    area: &mut [u16],
-    d: Desk,
-) -> io::Result<Desk> {
-    let a = ask_set(writer, line, from)?;
-    if a.ok {
-        let r = engine::delete(root, area, d.session, a.set);
-        let status = r.status;
-        told(writer, status, b"deleted\n")?;
-        return Ok(answered(d, status, r.session));
-    }
-    Ok(d)
-}
-
-// An empty base, and fresh cursors.
-pub fn make<W: Write>(writer: &mut W, root: &[u16], area: &mut [u16], d: Desk) -> io::Result<Desk> {
-    let status = engine::make(root, area);
-    told(writer, status, b"an empty base\n")?;
-    if condition(status) == 0 {
-        return Ok(answered(d, status, session::fresh_session()));
-    }
-    Ok(answered(d, status, d.session))
 }

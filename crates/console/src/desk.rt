@@ -1,103 +1,108 @@
-// What lies before the person: the cursors, the last status, and how much of the rooms root and area take.
-use screen::{say, say_long, say_word};
+// What lies before the person: a root and an area, the cursors, and the last call's status.
+use screen::Refused;
 use session::Session;
+use std::alloc::{AllocError, Global};
 use std::io;
 use std::io::Write;
-use words::long_at;
+use words::{lay, long_at, word};
 
+// The ten status words of a call.
 #[derive(Clone, Copy)]
+pub struct Status(pub [u16; 10]);
+
+impl Status {
+    // The status of an accepted call; of any other the refusal.
+    pub fn accepted(self) -> Result<Status, Refused> {
+        match word(&self.0, 0) {
+            0 => Ok(self),
+            condition => Err(Refused(condition)),
+        }
+    }
+
+    // The words of the entry.
+    pub fn size(&self) -> u16 {
+        word(&self.0, 1)
+    }
+
+    pub fn record(&self) -> u32 {
+        long_at(&self.0, 2)
+    }
+
+    // The lines of a chain, or the synonyms of an entry.
+    pub fn number(&self) -> u32 {
+        long_at(&self.0, 4)
+    }
+
+    // The saved links.
+    pub fn back(&self) -> u32 {
+        long_at(&self.0, 6)
+    }
+
+    pub fn fore(&self) -> u32 {
+        long_at(&self.0, 8)
+    }
+}
+
+#[derive(Drop)]
 pub struct Desk {
+    pub alloc: Global,
+    pub root: Vec<u16>,
+    pub area: Vec<u16>,
     pub session: Session,
-    pub status: [u16; 10],
-    pub root: usize,
-    pub area: usize,
-    pub going: bool,
+    pub status: Status,
 }
 
 impl Desk {
-    // The desk that is left.
-    pub fn left(self) -> Desk {
-        let mut d = self;
-        d.going = false;
-        d
+    // The desk over a root and an area, with fresh cursors.
+    pub fn new(alloc: Global, root: Vec<u16>, area: Vec<u16>) -> Desk {
+        Desk {
+            alloc,
+            root,
+            area,
+            session: Session::default(),
+            status: Status([0; 10]),
+        }
     }
-}
 
-// The desk over a root and an area of these lengths, with fresh cursors.
-pub fn fresh_desk(root: usize, area: usize) -> Desk {
-    Desk {
-        session: session::fresh_session(),
-        status: [0; 10],
-        root,
-        area,
-        going: true,
+    // "Items: 1 ACCT K1, 2 DATE K1, 3 QTY I1, 4 NAME X2. Set 1, manual, capacity 5: items 1, 4, key 1. Set 2, automatic, capacity
+    // 5: item 2. Set 3, detail, capacity 4: items 1, 2, 3; paths (1, 1, 2) and (2, 2, 0)." "area 68 + 58 + 47 = 173"
+    pub fn sample(alloc: Global) -> Result<Desk, AllocError> {
+        let mut root = vec![in alloc; 0; 109]?;
+        lay(&mut root, 0, &[4, 3, 2, 1, 2, 1, 1, 1, 3, 2]);
+        lay(&mut root, 10, &[1, 5, 2, 1, 0, 1, 4]);
+        lay(&mut root, 43, &[2, 5, 1, 2, 0, 2]);
+        lay(&mut root, 76, &[3, 4, 3, 0, 2, 1, 2, 3]);
+        lay(&mut root, 97, &[1, 1, 2, 2, 2, 0]);
+        Ok(Desk::new(alloc, root, vec![in alloc; 0; 173]?))
     }
-}
 
-// The desk after a call.
-pub fn answered(d: Desk, status: [u16; 10], session: Session) -> Desk {
-    Desk {
-        session,
-        status,
-        root: d.root,
-        area: d.area,
-        going: d.going,
+    // The ten status words of the last call, told one by one.
+    pub fn say_status<W: Write>(&self, writer: &mut W) -> io::Result<()> {
+        let status = self.status;
+        match status.accepted() {
+            Ok(_) => writeln!(writer, "accepted, 0")?,
+            Err(refused) => writeln!(writer, "{refused}")?,
+        }
+        writeln!(writer, "  entry length             {}", status.size())?;
+        writeln!(writer, "  record                   {}", status.record())?;
+        writeln!(writer, "  lines or synonyms        {}", status.number())?;
+        writeln!(writer, "  saved back               {}", status.back())?;
+        writeln!(writer, "  saved forward            {}", status.fore())
     }
-}
 
-fn say_line<W: Write>(writer: &mut W, name: &[u8], n: u32) -> io::Result<()> {
-    say(writer, name)?;
-    say_long(writer, n)?;
-    say(writer, b"\n")
-}
-
-// The ten status words of the last call, told one by one.
-pub fn say_status<W: Write>(writer: &mut W, d: Desk) -> io::Result<()> {
-    let status = d.status;
-    let w: &[u16] = &status;
-    let condition = words::word(w, 0);
-    if condition == 0 {
-        say(writer, b"accepted, 0\n")?;
-    } else {
-        screen::refused(writer, condition)?;
+    // The cursor of each set of the root.
+    pub fn say_cursors<W: Write>(&self, writer: &mut W) -> io::Result<()> {
+        let sets = root::sets(&self.root[..]).min(16) as usize;
+        for (i, c) in self.session.cursors[..sets].iter().enumerate() {
+            write!(
+                writer,
+                "set {}: record {}, path {}, ",
+                i + 1,
+                c.current,
+                c.path
+            )?;
+            writeln!(writer, "saved back {}, saved forward {}", c.back, c.fore)?;
+        }
+        Ok(())
     }
-    say_line(
-        writer,
-        b"  entry length             ",
-        words::word(w, 1) as u32,
-    )?;
-    say_line(writer, b"  record                   ", long_at(w, 2))?;
-    say_line(writer, b"  lines or synonyms        ", long_at(w, 4))?;
-    say_line(writer, b"  saved back               ", long_at(w, 6))?;
-    say_line(writer, b"  saved forward            ", long_at(w, 8))
-}
-
-fn say_cursor<W: Write>(writer: &mut W, d: Desk, s: u16) -> io::Result<()> {
-    if s == 0 {
-        return Ok(());
-    }
-    if 16 < s {
-        return Ok(());
-    }
-    let c = session::cursor_of(d.session, s);
-    say(writer, b"set ")?;
-    say_word(writer, s)?;
-    say(writer, b": record ")?;
-    say_long(writer, c.current)?;
-    say(writer, b", path ")?;
-    say_long(writer, c.path)?;
-    say(writer, b", saved back ")?;
-    say_long(writer, c.back)?;
-    say(writer, b", saved forward ")?;
-    say_long(writer, c.fore)?;
-    say(writer, b"\n")
-}
-
-// The cursor of each set of the root.
-pub fn say_cursors<W: Write>(writer: &mut W, d: Desk, root: &[u16]) -> io::Result<()> {
-    let n = root::sets(root);
-    for i in 0..n {
-        say_cursor(writer, d, i + 1)?;
-    }
-    Ok(())
 }

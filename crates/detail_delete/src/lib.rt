@@ -2,213 +2,148 @@
 // first freed. A refusal on any path leads back by the journal.
 #![tactic(auto)]
 
-ghost use Rattle.std.specs.Prelude.{◌≡◌, true, ◌+◌, ◌-◌, ◌*◌, ◌≤◌, ◌<◌, ◌^◌, length};
-ghost use Rattle.spec.specs.Root.{root_good, sets as sets_of, kind as kind_of, path_count as paths_of};
-ghost use Rattle.spec.specs.Layout.{shape_of as shape_in, detail_of, heads_of as heads_in};
-ghost use Rattle.spec.specs.Detail.{drop_automatic as automatic_dropped, unhang as unhung, delete_path as path_deleted, delete_paths as paths_deleted, free_record as record_freed, delete_line as line_deleted};
+ghost use Rattle.std.specs.Prelude.{◌≡◌, IfErr, ◌+◌, ◌-◌, ◌*◌, ◌≤◌, ◌<◌, ◌^◌, length};
+ghost use Rattle.spec.specs.Root.{path_count, path_master};
+ghost use Rattle.spec.specs.Layout.{detail_of, heads_of};
+ghost use Rattle.spec.specs.Detail.{drop_automatic, unhang, delete_paths, free_record, delete_line};
 ghost use Rattle.journal.specs.Journal.{Back};
-ghost use Rattle.master_put.specs.Answers.{area_out, Unwritten};
-ghost use Rattle.root.specs.Plan.{Planned};
+ghost use Rattle.master_put.specs.Answers.{area_out};
 ghost use Rattle.detail_delete.specs.Answers.{drop_room, path_room, path_at};
 
-use area::{blank, freed, mark_unused, poke, set_freed, value_at};
-use find::{Num, find_key};
-use layout::{heads_of, path_of, shape_of};
-use leaving::{HungRead, drop_empty, hung_on, link_out};
-use master_put::Went;
-use root::{Plan, path_count, path_master};
-use spec::{Hung, Master, Path, Shape};
-use words::part;
+use area::{blank, freed, mark_unused, poke, read_word, set_freed, value_at};
+use find::find_key;
+use journal::Journal;
+use layout::DetailSet;
+use leaving::{drop_empty, hung_on, link_out};
+use spec::{Master, Path, Refusal, Shape};
 
-// An automatic master's entry is dropped where it has no lines left; m is the master's number.
+// The entry of the master of path i is dropped where that is automatic and the entry has no lines left.
+#[tactic(auto, unfolding(spec::specs::Detail::drop_automatic, crate::specs::Answers::drop_room), using(journal::specs::BackLaws::back_none))]
 fn drop_automatic(
+    d: &DetailSet,
     area: &mut [u16],
-    jr: &mut [u64],
-    n: usize,
-    root: &[u16],
-    m: u16,
+    jr: &mut Journal,
+    i: u16,
     to: Master,
     k: u32,
-) -> Went
-    requires root_value { root_good root.now ≡ true }
-    requires le_k { (1 ≤ k) × (1 ≤ to.shape.cap) × (5 ≤ to.shape.width) × (to.shape.width ≤ 557) }
-    ensures is { area_out result.ok area.new ≡ automatic_dropped to (heads_in root.now m) area.old k }
-    ensures back { Back area.old jr.old n (drop_room to) area.new jr.new result.count }
+) -> Result<(), Refusal>
+    requires path { (1 ≤ i) × (i ≤ path_count d.now.root.now.words.now d.now.number) }
+    requires to { (1 ≤ k) × (1 ≤ to.shape.cap) × (5 ≤ to.shape.width) × (to.shape.width ≤ 557) }
+    ensures is { area_out result area.new ≡ drop_automatic to (heads_of d.now.root.now.words.now (path_master d.now.root.now.words.now d.now.number i)) area.old k }
+    ensures back { Back area.old jr.old (drop_room to) area.new jr.new }
 {
     if to.auto {
-        let heads = heads_of(root, m);
-        let caps = heads.caps;
-        let hs = part(&caps, 0, heads.count as usize);
-        drop_empty(area, jr, n, to, hs, k)
+        let heads = d.heads(i);
+        drop_empty(area, jr, to, heads.as_slice(), k)
     } else {
-        Went { ok: true, count: n }
+        Ok(())
     }
 }
 
-// The line is taken off the chain of record k.
+// Line r is taken off the chain of record k on path i, which is p.
+#[tactic(auto, unfolding(spec::specs::Detail::unhang, crate::specs::Answers::path_room), using(spec::specs::Follow::goes, spec::specs::Follow::stops, journal::specs::BackLaws::back_then, journal::specs::BackLaws::back_none))]
 fn unhang(
+    d: &DetailSet,
     area: &mut [u16],
-    jr: &mut [u64],
-    n: usize,
-    root: &[u16],
-    m: u16,
-    d: Shape,
+    jr: &mut Journal,
+    i: u16,
     p: Path,
     k: u32,
     r: u32,
-) -> Went
-    requires root_value { root_good root.now ≡ true }
-    requires le_cap { (1 ≤ p.to.shape.cap) × (5 ≤ p.to.shape.width) × (p.to.shape.width ≤ 557) × (p.head ≤ 65000) × (p.links ≤ 65000) × (1 ≤ r) × (1 ≤ k) }
-    ensures is { area_out result.ok area.new ≡ unhung d p (heads_in root.now m) area.old k r }
-    ensures back { Back area.old jr.old n (path_room p) area.new jr.new result.count }
+) -> Result<(), Refusal>
+    requires path { (1 ≤ i) × (i ≤ path_count d.now.root.now.words.now d.now.number) }
+    requires to { (1 ≤ p.to.shape.cap) × (5 ≤ p.to.shape.width) × (p.to.shape.width ≤ 557) × (p.head ≤ 65000) × (p.links ≤ 65000) × (1 ≤ r) × (1 ≤ k) }
+    ensures is { area_out result area.new ≡ unhang d.now.shape p (heads_of d.now.root.now.words.now (path_master d.now.root.now.words.now d.now.number i)) area.old k r }
+    ensures back { Back area.old jr.old (path_room p) area.new jr.new }
 {
-    match hung_on(area, d, p, k, r) {
-        HungRead::Broken => Went {
-            ok: false,
-            count: n,
-        },
-        HungRead::On(g) => {
-            let c = link_out(area, jr, n, d, p, k, g.head, g.links);
-            drop_automatic(area, jr, c, root, m, p.to, k)
-        }
-    }
+    let g = hung_on(area, d.shape, p, k, r)?;
+    link_out(area, jr, d.shape, p, k, g.head, g.links);
+    drop_automatic(d, area, jr, i, p.to, k)
 }
 
-// One path's turn; m is the number of its master.
+// The turn of path i of the set.
 fn delete_path(
+    d: &DetailSet,
     area: &mut [u16],
-    jr: &mut [u64],
-    n: usize,
-    root: &[u16],
-    m: u16,
-    d: Shape,
-    p: Path,
-    r: u32,
-) -> Went
-    requires root_value { root_good root.now ≡ true }
-    requires le_cap { (1 ≤ p.to.shape.cap) × (5 ≤ p.to.shape.width) × (p.to.shape.width ≤ 557) × (p.head ≤ 65000) × (p.links ≤ 65000) × (1 ≤ r) }
-    ensures is { area_out result.ok area.new ≡ path_deleted d p (heads_in root.now m) area.old r }
-    ensures back { Back area.old jr.old n (path_room p) area.new jr.new result.count }
-{
-    match find_key(area, p.to, value_at(area, d, p.search, r)) {
-        Num::Broken => Went {
-            ok: false,
-            count: n,
-        },
-        Num::Good(k) => {
-            if k == 0 {
-                return Went {
-                    ok: false,
-                    count: n,
-                };
-            }
-            unhang(area, jr, n, root, m, d, p, k, r)
-        }
-    }
-}
-
-// The turn of path i of set s, by its number.
-fn delete_at(
-    root: &[u16],
-    plan: Plan,
-    s: u16,
-    area: &mut [u16],
-    jr: &mut [u64],
-    n: usize,
-    d: Shape,
+    jr: &mut Journal,
     i: u16,
     r: u32,
-) -> Went
-    requires planned { Planned root.now plan }
-    requires le_s { (1 ≤ s) × (s ≤ sets_of root.now) × (d ≡ shape_in root.now s) × (1 ≤ i) × (i ≤ paths_of root.now s) × (1 ≤ r) }
-    ensures is { area_out result.ok area.new ≡ path_at root.now s i area.old r }
-    ensures back { Back area.old jr.old n 173 area.new jr.new result.count }
+) -> Result<(), Refusal>
+    requires path { (1 ≤ i) × (i ≤ path_count d.now.root.now.words.now d.now.number) }
+    requires low { 1 ≤ r }
+    ensures is { area_out result area.new ≡ path_at d.now.root.now.words.now d.now.number i area.old r }
+    ensures back { Back area.old jr.old 173 area.new jr.new }
 {
-    let p = path_of(root, plan, s, i);
-    let m = path_master(root, s, i);
-    delete_path(area, jr, n, root, m, d, p, r)
+    let p = d.path(i);
+    let k = find_key(area, p.to, value_at(area, d.shape, p.search, r))?;
+    if k == 0 {
+        return Err(Refusal::Broken);
+    }
+    unhang(d, area, jr, i, p, k, r)
 }
 
 // "paths 1 upward"
-fn delete_paths(
-    root: &[u16],
-    plan: Plan,
-    s: u16,
-    area: &mut [u16],
-    jr: &mut [u64],
-    d: Shape,
-    r: u32,
-) -> Went
-    requires planned { Planned root.now plan }
-    requires le_s { (1 ≤ s) × (s ≤ sets_of root.now) × (kind_of root.now s ≡ 3) × (d ≡ shape_in root.now s) × (1 ≤ r) }
-    ensures is { area_out result.ok area.new ≡ paths_deleted (detail_of root.now s) r (paths_of root.now s) 1 area.old }
-    ensures back { Back area.old jr.old 0 (173 * paths_of root.now s) area.new jr.new result.count }
+fn delete_paths(d: &DetailSet, area: &mut [u16], jr: &mut Journal, r: u32) -> Result<(), Refusal>
+    requires { 1 ≤ r }
+    ensures is { area_out result area.new ≡ delete_paths (detail_of d.now.root.now.words.now d.now.number) r (path_count d.now.root.now.words.now d.now.number) 1 area.old }
+    ensures back { Back area.old jr.old (173 * path_count d.now.root.now.words.now d.now.number) area.new jr.new }
 {
-    let mut n: usize = 0;
-    let mut i: u16 = 0;
-    let count = path_count(root, s);
-    while i < count {
-        let w = delete_at(root, plan, s, area, jr, n, d, i + 1, r);
-        n = w.count;
-        if w.ok {
-            i += 1;
-        } else {
-            return Went {
-                ok: false,
-                count: n,
-            };
-        }
+    for i in 0..d.path_count() {
+        delete_path(d, area, jr, i + 1, r)?;
     }
-    Went { ok: true, count: n }
+    Ok(())
 }
 
-// "the record becomes the first freed": nothing refuses any more, so the journal is written over.
-fn free_record(area: &mut [u16], jr: &mut [u64], s: Shape, r: u32, next: u16)
+// "the record becomes the first freed": nothing refuses any more.
+#[tactic(auto, unfolding(spec::specs::Detail::free_record, spec::specs::Area::set_next_freed))]
+fn free_record(area: &mut [u16], jr: &mut Journal, s: Shape, r: u32, next: u16)
     requires { (1 ≤ r) × (r ≤ 65535) }
-    ensures { area.new ≡ record_freed s area.old r next }
+    ensures { area.new ≡ free_record s area.old r next }
 {
-    blank(area, jr, 0, s, r, 0, s.width);
-    poke(area, jr, 0, s, r, 0, next);
-    set_freed(area, jr, 0, s, r as u16);
-    mark_unused(area, jr, 0, s, r);
+    blank(area, jr, s, r, 0, s.width);
+    poke(area, jr, s, r, 0, next);
+    set_freed(area, jr, s, r as u16);
+    mark_unused(area, jr, s, r);
 }
 
-// Line r of set s is deleted, or the area is as it was (answer 18). A path puts down at most 173 words; a
-// room for two paths is cleared in half the time.
-pub fn delete_line(root: &[u16], plan: Plan, s: u16, area: &mut [u16], r: u32) -> bool
-    requires planned { Planned root.now plan }
-    requires le_s { (1 ≤ s) × (s ≤ sets_of root.now) × (kind_of root.now s ≡ 3) × (1 ≤ r) × (r ≤ 65535) }
-    ensures is { area_out result area.new ≡ line_deleted (detail_of root.now s) area.old r }
-    ensures kept { Unwritten result area.old area.new }
+// Line r goes; where it can't, the journal leads back.
+fn unline(d: &DetailSet, area: &mut [u16], jr: &mut Journal, r: u32) -> Result<(), Refusal>
+    requires { (1 ≤ r) × (r ≤ 65535) }
+    ensures is { area_out result area.new ≡ delete_line (detail_of d.now.root.now.words.now d.now.number) area.old r }
+    ensures back { IfErr result (λ _. Back area.old jr.old (173 * path_count d.now.root.now.words.now d.now.number) area.new jr.new) }
 {
-    if path_count(root, s) <= 2 {
-        let mut jr = [0u64; 346];
-        return delete_by(root, plan, s, area, &mut jr, r);
+    delete_paths(d, area, jr, r)?;
+    let next = read_word(d.shape.cap, freed(area, d.shape))?;
+    free_record(area, jr, d.shape, r, next);
+    Ok(())
+}
+
+// Line r of the set is deleted, or the area is as it was. A path puts down at most 173 words; a room for two paths is cleared in
+// half the time.
+pub fn delete_line(d: &DetailSet, area: &mut [u16], r: u32) -> Result<(), Refusal>
+    requires { (1 ≤ r) × (r ≤ 65535) }
+    ensures is { area_out result area.new ≡ delete_line (detail_of d.now.root.now.words.now d.now.number) area.old r }
+    ensures kept { IfErr result (λ _. area.new ≡ area.old) }
+{
+    if d.path_count() <= 2 {
+        delete_by(d, area, &mut [0; 346], r)
+    } else {
+        delete_by(d, area, &mut [0; 692], r)
     }
-    let mut jr = [0u64; 692];
-    delete_by(root, plan, s, area, &mut jr, r)
 }
 
 // The same by a journal with room for it.
-fn delete_by(root: &[u16], plan: Plan, s: u16, area: &mut [u16], jr: &mut [u64], r: u32) -> bool
-    requires planned { Planned root.now plan }
-    requires le_s { (1 ≤ s) × (s ≤ sets_of root.now) × (kind_of root.now s ≡ 3) × (1 ≤ r) × (r ≤ 65535) × (173 * paths_of root.now s ≤ length jr.old) }
-    ensures is { area_out result area.new ≡ line_deleted (detail_of root.now s) area.old r }
-    ensures kept { Unwritten result area.old area.new }
+fn delete_by(d: &DetailSet, area: &mut [u16], room: &mut [u64], r: u32) -> Result<(), Refusal>
+    requires { (1 ≤ r) × (r ≤ 65535) × (173 * path_count d.now.root.now.words.now d.now.number ≤ length room.old) }
+    ensures is { area_out result area.new ≡ delete_line (detail_of d.now.root.now.words.now d.now.number) area.old r }
+    ensures kept { IfErr result (λ _. area.new ≡ area.old) }
 {
-    let d = shape_of(root, plan, s);
-    let w = delete_paths(root, plan, s, area, jr, d, r);
-    if w.ok {
-        let next = freed(area, d);
-        if next <= d.cap {
-            free_record(area, jr, d, r, next);
-            true
-        } else {
-            journal::rewind(area, jr, w.count);
-            false
+    let mut jr = Journal::over(room);
+    match unline(d, area, &mut jr, r) {
+        Ok(()) => Ok(()),
+        Err(why) => {
+            jr.rewind(area);
+            Err(why)
         }
-    } else {
-        journal::rewind(area, jr, w.count);
-        false
     }
 }

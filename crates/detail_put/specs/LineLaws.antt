@@ -1,6 +1,5 @@
 -- What is known of the answers of a detail put, and of the record that it takes. Assumes nothing.
 use Rattle.std.specs.Prelude.{ℕ, ◌+◌, ◌≤◌, ◌<◌, ◌≡◌, refl, Bool, true, false, not, List, ltb, eqb}
-use Rattle.std.proofs.Common.{sym, ◌∙◌, ap, subst}
 use native.Mathlib.Omega.{arith}
 use borrow.Author.Tests.{ltb-true, eqb-false}
 use Rattle.spec.specs.declared.Refusal.{Refusal}
@@ -10,35 +9,8 @@ use Rattle.spec.specs.declared.Taken.{Taken}
 use Rattle.spec.specs.Outcome.{Outcome, accept, refuse, require, ◌>>=◌}
 use Rattle.spec.specs.Layout.{Detail}
 use Rattle.spec.specs.Area.{live, mark, freed, next_freed, read, check}
-use Rattle.spec.specs.Detail.{take_freed, take_above, take_record, Lined, put_paths, Line, none_passed, put_taken, put_line}
+use Rattle.spec.specs.Detail.{take_freed, take_above, take_record, put_paths, Line, none_passed, put_taken, put_line}
 use Rattle.area.specs.AreaLaws.{Then, then_bind, then_told, read_then}
-use Rattle.master_put.specs.declared.Entered.{Entered}
-use Rattle.master_put.specs.declared.Entered.TheVariants.{At, Refused}
-use Rattle.placing.specs.declared.Take.{Take}
-use Rattle.placing.specs.declared.Take.TheVariants.{Record}
-use Rattle.placing.specs.Answers.{taken_out}
-use Rattle.detail_put.specs.declared.Lining.{Lining}
-use Rattle.detail_put.specs.declared.Lining.TheVariants.{Done, Refused as LiningRefused}
-use Rattle.detail_put.specs.Answers.{lined_out, line_out, Unpassed}
-
--- ---- an answer and the outcome that it stands for
-module _ (w : Lining) (ks a : List ℕ) (o : Outcome Lined) (e : lined_out w ks a ≡ o) where
-  pub lined_done : w ≡ Done → o ≡ accept (record { area = a; passed = ks })
-  lined_done k = sym e ∙ ap (λ (x : Lining). lined_out x ks a) k
-
-  pub lined_refused : (why : Refusal) → w ≡ LiningRefused why → o ≡ refuse why
-  lined_refused why k = sym e ∙ ap (λ (x : Lining). lined_out x ks a) k
-
-module _ (w : Entered) (ks a : List ℕ) (o : Outcome Line) (e : line_out w ks a ≡ o) where
-  pub line_done : (r : ℕ) → w ≡ At r → o ≡ accept (record { at = r; area = a; passed = ks })
-  line_done r k = sym e ∙ ap (λ (x : Entered). line_out x ks a) k
-
-  pub line_refused : (why : Refusal) → w ≡ Refused why → o ≡ refuse why
-  line_refused why k = sym e ∙ ap (λ (x : Entered). line_out x ks a) k
-
--- a refused put has passed no lines
-pub unpassed : (w : Entered) (why : Refusal) (ks : List ℕ) → Unpassed w ks → w ≡ Refused why → ks ≡ none_passed
-unpassed w why ks h k = subst (λ (x : Entered). Unpassed x ks) k h
 
 -- ---- the record that a put takes is one of the set's
 abbrev Inside : Shape → Taken → Type 0
@@ -79,19 +51,19 @@ module _ (s : Shape) (a : List ℕ) where
       then_bind _ _ (read s.cap (freed s a)) _ (read_then s.cap (freed s a)) (λ r t.
       then_case _ (eqb r 0) _ _ (λ _. above_then high) (λ e. freed_then high r (eqb-false r 0 e) t.1)))
 
-  pub taken_low : (x : Take) (t : Taken) → taken_out x ≡ take_record s a → x ≡ Record t → 1 ≤ t.at
-  taken_low x t e k = (then_told (Inside s) (take_record s a) t taken_then (sym e ∙ ap taken_out k)).0
+  pub taken_low : (t : Taken) → take_record s a ≡ accept t → 1 ≤ t.at
+  taken_low t e = (then_told (Inside s) (take_record s a) t taken_then e).0
 
 -- of an accepted put
-module _ (d : Detail) (a entry b ks : List ℕ) (w : Entered) (r : ℕ) (e : line_out w ks b ≡ put_line d a entry) (k : w ≡ At r) where
+module _ (d : Detail) (a entry : List ℕ) (l : Line) (e : put_line d a entry ≡ accept l) where
   line_then : Then (λ (l : Line). (1 ≤ l.at) × (l.at ≤ d.shape.cap)) (put_line d a entry)
   unfolding put_line put_taken
   line_then =
       then_bind _ _ (take_record d.shape a) _ (taken_then d.shape a) (λ t h.
       then_after _ (put_paths d entry t.at d.paths 1 (record { area = a; passed = none_passed })) _ (λ _. h))
 
-  pub line_low : 1 ≤ r
-  line_low = (then_told _ (put_line d a entry) _ line_then (line_done w ks b _ e r k)).0
+  pub line_low : 1 ≤ l.at
+  line_low = (then_told _ (put_line d a entry) l line_then e).0
 
-  pub line_high : r ≤ d.shape.cap
-  line_high = (then_told _ (put_line d a entry) _ line_then (line_done w ks b _ e r k)).1
+  pub line_high : l.at ≤ d.shape.cap
+  line_high = (then_told _ (put_line d a entry) l line_then e).1

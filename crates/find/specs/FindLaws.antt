@@ -1,9 +1,8 @@
 -- What is known of a master's readings and of their answers. Assumes nothing.
 use Prim.Native.Nat.{ℕ, zero, suc, ◌+◌, ◌-◌, ◌%◌, ◌≤◌, ◌<◌}
-use Rattle.std.specs.Prelude.{◌≡◌, refl, Bool, true, false, cond, not, ◌||◌, List, ltb, eqb}
-use Rattle.std.proofs.Common.{sym, ◌∙◌, ap, subst, mod-lt, ltb-true, ne_eqb}
+use Rattle.std.specs.Prelude.{◌≡◌, refl, Bool, true, false, cond, not, List, ltb, eqb}
+use Rattle.std.proofs.Common.{mod-lt, ltb-true}
 use native.Mathlib.Omega.{arith}
-use Rattle.spec.specs.declared.Refusal.TheVariants.{Broken as BrokenLink}
 use Rattle.spec.specs.declared.Shape.{Shape}
 use Rattle.spec.specs.declared.Lowered.{Lowered}
 use Rattle.spec.specs.declared.Master.{Master}
@@ -12,59 +11,6 @@ use Rattle.spec.specs.Words.{same}
 use Rattle.spec.specs.Area.{live, check, follow, synonyms}
 use Rattle.spec.specs.Master.{address_in, address, key_at, primary_of, find_along, find_primary, find_key, next_up, unused_from, lowered}
 use Rattle.area.specs.AreaLaws.{Then, then_bind, then_told, synonyms_then}
-use Rattle.find.specs.declared.Num.{Num}
-use Rattle.find.specs.declared.Num.TheVariants.{Good, Broken}
-use Rattle.find.specs.declared.Lower.{Lower}
-use Rattle.find.specs.declared.Lower.TheVariants.{To, Broken as NoneToLower}
-use Rattle.find.specs.declared.Lines.{Lines}
-use Rattle.find.specs.declared.Lines.TheVariants.{None, Some, Broken as Torn}
-use Rattle.find.specs.Answers.{num_out, lowered_out, none_out, Positive}
-
--- ---- an answer and the outcome that it stands for
-pub num_good : (x : Num) (o : Outcome ℕ) (r : ℕ) → num_out x ≡ o → x ≡ Good r → o ≡ accept r
-num_good x o r e k = sym e ∙ ap num_out k
-
-pub num_broken : (x : Num) (o : Outcome ℕ) → num_out x ≡ o → x ≡ Broken → o ≡ refuse BrokenLink
-num_broken x o e k = sym e ∙ ap num_out k
-
-pub num_positive : (x : Num) (r : ℕ) → Positive x → x ≡ Good r → 1 ≤ r
-num_positive x r h k = subst Positive k h
-
-pub lowered_to : (x : Lower) (o : Outcome Lowered) (q : Lowered) → lowered_out x ≡ o → x ≡ To q → o ≡ accept q
-lowered_to x o q e k = sym e ∙ ap lowered_out k
-
-pub lowered_broken : (x : Lower) (o : Outcome Lowered) → lowered_out x ≡ o → x ≡ NoneToLower → o ≡ refuse BrokenLink
-lowered_broken x o e k = sym e ∙ ap lowered_out k
-
-pub lines_none : (x : Lines) (o : Outcome Bool) → none_out x ≡ o → x ≡ None → o ≡ accept true
-lines_none x o e k = sym e ∙ ap none_out k
-
-pub lines_some : (x : Lines) (o : Outcome Bool) → none_out x ≡ o → x ≡ Some → o ≡ accept false
-lines_some x o e k = sym e ∙ ap none_out k
-
-pub lines_broken : (x : Lines) (o : Outcome Bool) → none_out x ≡ o → x ≡ Torn → o ≡ refuse BrokenLink
-lines_broken x o e k = sym e ∙ ap none_out k
-
--- ---- a link followed, with the answer of `follow`, and of `live` for one that is not 0
-module _ (s : Shape) (a : List ℕ) (r : ℕ) (b : Bool) where
-  module _ (e : b ≡ (eqb r 0 || live s a r)) where
-    pub followed : b ≡ true → follow s a r ≡ accept tt
-    unfolding follow
-    followed t = rw (sym e ∙ t)
-
-    pub unfollowed : b ≡ false → follow s a r ≡ refuse BrokenLink
-    unfolding follow
-    unfollowed t = rw (sym e ∙ t)
-
-  module _ (n : r ≡ 0 → ⊥) (e : b ≡ live s a r) where
-    led : b ≡ (eqb r 0 || live s a r)
-    led = rw (ne_eqb r 0 n) e
-
-    pub follow_live : b ≡ true → follow s a r ≡ accept tt
-    follow_live = followed led
-
-    pub follow_unused : b ≡ false → follow s a r ≡ refuse BrokenLink
-    follow_unused = unfollowed led
 
 -- ---- the primary address is a record of the master
 module _ (cap x : ℕ) where
@@ -107,8 +53,8 @@ lowered_then m a r =
     then_bind _ _ (primary_of m a r) _ (primary_then m a r) (λ p h.
     then_after _ (synonyms m.shape a p) _ (λ z. then_after _ (check (ltb 0 z.count)) _ (λ _. h)))
 
-pub lowered_low : (m : Master) (a : List ℕ) (r : ℕ) (x : Lower) (q : Lowered) → lowered_out x ≡ lowered m a r → x ≡ To q → 1 ≤ q.at
-lowered_low m a r x q e k = then_told _ (lowered m a r) q (lowered_then m a r) (lowered_to x _ q e k)
+pub lowered_low : (m : Master) (a : List ℕ) (r : ℕ) (q : Lowered) → lowered m a r ≡ accept q → 1 ≤ q.at
+lowered_low m a r q e = then_told _ (lowered m a r) q (lowered_then m a r) e
 
 -- ---- the record that find gives is one of the master's, or 0
 module _ (m : Master) (a key : List ℕ) where
@@ -131,8 +77,8 @@ module _ (m : Master) (a key : List ℕ) where
       (then_if _ (same (key_at m a r) key) _ _ (address_high m key h) (along_then (m.shape.cap - 1) y.fore f.fore))))
       (omega arith)
 
-  pub find_fits : (x : Num) (r : ℕ) → 1 ≤ m.shape.cap → num_out x ≡ find_key m a key → x ≡ Good r → r ≤ m.shape.cap
-  find_fits x r h e k = then_told _ (find_key m a key) r (find_then h) (num_good x _ r e k)
+  pub find_fits : (r : ℕ) → 1 ≤ m.shape.cap → find_key m a key ≡ accept r → r ≤ m.shape.cap
+  find_fits r h e = then_told _ (find_key m a key) r (find_then h) e
 
 -- ---- the first unused record is one of the master's, or 0
 up_fits : (b : Bool) (cap r : ℕ) → 1 ≤ cap → ltb r cap ≡ b → cond b (r + 1) 1 ≤ cap

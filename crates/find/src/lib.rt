@@ -2,29 +2,14 @@
 // put and a delete read before they write.
 #![tactic(auto)]
 
-ghost use Rattle.std.specs.Prelude.{◌≡◌, true, cond, ◌+◌, ◌-◌, ◌*◌, ◌%◌, ◌≤◌, ◌<◌, ◌^◌, length};
-ghost use Rattle.spec.specs.Words.{same as same_words};
-ghost use Rattle.spec.specs.Master.{key_number, address as address_of, key_at as key_in, primary_of as primary_in, find_along as found_along, find_primary as found_primary, find_key as found_key, next_up as up_from, unused_from as unused_in, last_primary as last_primary_in, named_by as named_in, no_lines as lines_none, lowered as lowered_in};
-ghost use Rattle.find.specs.Answers.{num_out, lowered_out, none_out, Positive, Full};
+ghost use Rattle.std.specs.Prelude.{◌≡◌, true, cond, IfOk, ◌+◌, ◌-◌, ◌*◌, ◌%◌, ◌≤◌, ◌<◌, ◌^◌, length};
+ghost use Rattle.spec.specs.Words.{same};
+ghost use Rattle.spec.specs.Master.{key_number, address, key_at, primary_of, find_along, find_primary, find_key, next_up, unused_from, last_primary, named_by, no_lines, lowered};
+ghost use Rattle.find.specs.Answers.{Full};
 
-use area::{HeadRead, live, read_head, synonyms, value_at, word_alike};
-use spec::{Head, Lowered, Master, Shape};
+use area::{follow, live, read_head, synonyms, value_at, word_alike};
+use spec::{Head, Lowered, Master, Refusal, Shape};
 use words::same;
-
-// A record's number, 0 for none; or answer 18.
-#[derive(Clone, Copy)]
-pub enum Num {
-    Good(u32),
-    Broken,
-}
-
-// Whether an entry has no lines; or answer 18.
-#[derive(Clone, Copy)]
-pub enum Lines {
-    None,
-    Some,
-    Broken,
-}
 
 // "(257v + w) mod 2^31", with 65536 for 257 where the key is a number.
 fn one_more(by: u32, v: u32, w: u16) -> u32
@@ -35,14 +20,13 @@ fn one_more(by: u32, v: u32, w: u16) -> u32
 }
 
 // The number of a key's words.
+#[tactic(auto, using(crate::proofs::Laws::number_turn, crate::proofs::Laws::number_end))]
 fn number_by(by: u32, key: &[u16]) -> u32
     ensures { (result ≡ key_number by 0 key.now) × (result < 2 ^ 31) }
 {
     let mut v: u32 = 0;
-    let mut i: usize = 0;
-    while i < key.len() {
-        v = one_more(by, v, key[i]);
-        i += 1;
+    for w in key {
+        v = one_more(by, v, *w);
     }
     v
 }
@@ -55,18 +39,21 @@ fn base(text: bool) -> u32
 }
 
 // "((v + C − 1) mod C) + 1"
+#[tactic(auto, unfolding(spec::specs::Master::address, spec::specs::Master::address_in), using(crate::specs::FindLaws::wrapped_high))]
 pub fn address(m: Master, key: &[u16]) -> u32
     requires { 1 ≤ m.shape.cap }
-    ensures { (result ≡ address_of m key.now) × (1 ≤ result) × (result ≤ m.shape.cap) }
+    ensures is { result ≡ address m key.now }
+    ensures within { (1 ≤ result) × (result ≤ m.shape.cap) }
 {
     let v = number_by(base(m.text), key);
     let c = m.shape.cap as u32;
     (v + c - 1) % c + 1
 }
 
+#[tactic(auto, unfolding(spec::specs::Master::key_at))]
 pub fn key_at(area: &[u16], m: Master, r: u32) -> &[u16]
     requires { 1 ≤ r }
-    ensures { result.now ≡ key_in m area.now r }
+    ensures { result.now ≡ key_at m area.now r }
 {
     value_at(area, m.shape, m.key, r)
 }
@@ -74,92 +61,78 @@ pub fn key_at(area: &[u16], m: Master, r: u32) -> &[u16]
 // Whether the entry in record r has the key.
 fn has_key(area: &[u16], m: Master, r: u32, key: &[u16]) -> bool
     requires { 1 ≤ r }
-    ensures { result ≡ same_words (key_in m area.now r) key.now }
+    ensures { result ≡ same (key_at m area.now r) key.now }
 {
     same(key_at(area, m, r), key)
 }
 
 // "a secondary's primary is found from its key; that address counts as a link"
-fn primary_of(area: &[u16], m: Master, r: u32) -> Num
+#[tactic(auto, unfolding(spec::specs::Master::primary_of), using(spec::specs::Follow::goes, spec::specs::Follow::stops))]
+fn primary_of(area: &[u16], m: Master, r: u32) -> Result<u32, Refusal>
     requires { (1 ≤ r) × (1 ≤ m.shape.cap) }
-    ensures is { num_out result ≡ primary_in m area.now r }
-    ensures found { Positive result }
+    ensures is { result ≡ primary_of m area.now r }
+    ensures found { IfOk result (λ p. 1 ≤ p) }
 {
     let p = address(m, key_at(area, m, r));
     if p == r {
-        return Num::Broken;
+        return Err(Refusal::Broken);
     }
-    if live(area, m.shape, p) {
-        Num::Good(p)
-    } else {
-        Num::Broken
-    }
+    follow(area, m.shape, p)?;
+    Ok(p)
 }
 
-// Along the synonym chain from record r on, at most n records.
-fn find_along(area: &[u16], m: Master, key: &[u16], n: u16, r: u32) -> Num
-    ensures { num_out result ≡ found_along m area.now key.now n r }
+// Along the synonym chain from record r on, at most n records; 0 where none has the key.
+#[tactic(auto, using(crate::proofs::Laws::walk_end, crate::proofs::Laws::walk_long, crate::proofs::Laws::walk_lost, crate::proofs::Laws::walk_here, crate::proofs::Laws::walk_torn, crate::proofs::Laws::walk_next))]
+fn find_along(area: &[u16], m: Master, key: &[u16], n: u16, r: u32) -> Result<u32, Refusal>
+    ensures { result ≡ find_along m area.now key.now n r }
 {
-    let mut left = n;
     let mut at = r;
-    while at != 0 {
-        if left == 0 {
-            return Num::Broken;
+    for _ in 0..n {
+        if at == 0 {
+            return Ok(0);
         }
-        if live(area, m.shape, at) {
-            if has_key(area, m, at, key) {
-                return Num::Good(at);
-            }
-            match synonyms(area, m.shape, at) {
-                HeadRead::Whole(y) => {
-                    at = y.fore;
-                    left -= 1;
-                }
-                HeadRead::Broken => {
-                    return Num::Broken;
-                }
-            }
-        } else {
-            return Num::Broken;
+        follow(area, m.shape, at)?;
+        if has_key(area, m, at, key) {
+            return Ok(at);
         }
+        at = synonyms(area, m.shape, at)?.fore;
     }
-    Num::Good(0)
+    if at == 0 { Ok(0) } else { Err(Refusal::Broken) }
 }
 
-fn find_primary(area: &[u16], m: Master, key: &[u16], h: u32) -> Num
+#[tactic(auto, unfolding(spec::specs::Master::find_primary), using(spec::specs::Follow::goes, spec::specs::Follow::stops))]
+fn find_primary(area: &[u16], m: Master, key: &[u16], h: u32) -> Result<u32, Refusal>
     requires { (1 ≤ h) × (1 ≤ m.shape.cap) }
-    ensures { num_out result ≡ found_primary m area.now key.now h }
+    ensures { result ≡ find_primary m area.now key.now h }
 {
-    match synonyms(area, m.shape, h) {
-        HeadRead::Broken => Num::Broken,
-        HeadRead::Whole(y) => {
-            if y.count == 0 {
-                return Num::Good(0);
-            }
-            if has_key(area, m, h, key) {
-                return Num::Good(h);
-            }
-            find_along(area, m, key, m.shape.cap - 1, y.fore)
-        }
+    let y = synonyms(area, m.shape, h)?;
+    if y.count == 0 {
+        Ok(0)
+    } else if has_key(area, m, h, key) {
+        Ok(h)
+    } else {
+        find_along(area, m, key, m.shape.cap - 1, y.fore)
     }
 }
 
 // "Find: look at the primary address; unused, or held by a secondary, means absent; otherwise compare along the synonym chain."
-pub fn find_key(area: &[u16], m: Master, key: &[u16]) -> Num
+// The record that has the key, 0 where none has.
+#[tactic(auto, unfolding(spec::specs::Master::find_key))]
+pub fn find_key(area: &[u16], m: Master, key: &[u16]) -> Result<u32, Refusal>
     requires { 1 ≤ m.shape.cap }
-    ensures { num_out result ≡ found_key m area.now key.now }
+    ensures { result ≡ find_key m area.now key.now }
 {
     let h = address(m, key);
     if live(area, m.shape, h) {
         find_primary(area, m, key, h)
     } else {
-        Num::Good(0)
+        Ok(0)
     }
 }
 
 // "wrapping past C to 1"
 fn next_up(cap: u16, r: u32) -> u32
-    ensures { (result ≡ up_from cap r) × (1 ≤ result) }
+    ensures { (result ≡ next_up cap r) × (1 ≤ result) }
 {
     if r < (cap as u32) { r + 1 } else { 1 }
 }
@@ -179,10 +152,11 @@ fn word_full(area: &[u16], s: Shape, n: u16, r: u32) -> bool
 }
 
 // "the first unused record going up from h, wrapping past C to 1"; 0 where none of n is unused. A full word of the map is passed
-// at once: a nearly full master has long runs of them.
+// at once: a nearly full master has long runs of them. (A while loop: its steps are of 1 and of 16 records.)
+#[tactic(auto, using(crate::proofs::Laws::up_word, crate::proofs::Laws::up_none, crate::proofs::Laws::up_here, crate::proofs::Laws::up_next))]
 pub fn unused_from(area: &[u16], s: Shape, n: u16, r: u32) -> u32
     requires { 1 ≤ r }
-    ensures { result ≡ unused_in s area.now n r }
+    ensures { result ≡ unused_from s area.now n r }
 {
     let mut left = n;
     let mut at = r;
@@ -201,77 +175,57 @@ pub fn unused_from(area: &[u16], s: Shape, n: u16, r: u32) -> u32
 }
 
 // "and, if its last changes, primary"
-pub fn last_primary(area: &[u16], m: Master, h: u32) -> Num
+#[tactic(auto, unfolding(spec::specs::Master::last_primary), using(spec::specs::Follow::goes, spec::specs::Follow::stops))]
+fn last_primary(area: &[u16], m: Master, h: u32) -> Result<u32, Refusal>
     requires { (1 ≤ h) × (1 ≤ m.shape.cap) }
-    ensures { num_out result ≡ last_primary_in m area.now h }
+    ensures { result ≡ last_primary m area.now h }
 {
-    match primary_of(area, m, h) {
-        Num::Broken => Num::Broken,
-        Num::Good(p) => match synonyms(area, m.shape, p) {
-            HeadRead::Broken => Num::Broken,
-            HeadRead::Whole(_) => Num::Good(p),
-        },
-    }
+    let p = primary_of(area, m, h)?;
+    synonyms(area, m.shape, p)?;
+    Ok(p)
 }
 
 // The record whose link back names the one at h: its next, or its primary.
-pub fn named_by(area: &[u16], m: Master, h: u32, y: Head) -> Num
+#[tactic(auto, unfolding(spec::specs::Master::named_by))]
+pub fn named_by(area: &[u16], m: Master, h: u32, y: Head) -> Result<u32, Refusal>
     requires { (1 ≤ h) × (1 ≤ m.shape.cap) }
-    ensures { num_out result ≡ named_in m area.now h y }
+    ensures { result ≡ named_by m area.now h y }
 {
     if y.fore == 0 {
         last_primary(area, m, h)
     } else {
-        Num::Good(y.fore)
+        Ok(y.fore)
     }
 }
 
-// "Heads are read one by one, and a delete stops reading them at the first count that isn't 0."
-pub fn no_lines(area: &[u16], s: Shape, r: u32, heads: &[u16]) -> Lines
+// "Heads are read one by one, and a delete stops reading them at the first count that isn't 0": whether all are 0.
+#[tactic(auto, using(crate::proofs::Laws::heads_end, crate::proofs::Laws::heads_torn, crate::proofs::Laws::heads_some, crate::proofs::Laws::heads_next))]
+pub fn no_lines(area: &[u16], s: Shape, r: u32, heads: &[u16]) -> Result<bool, Refusal>
     requires { (1 ≤ r) × (length heads.now ≤ 8) }
-    ensures { none_out result ≡ lines_none s area.now r heads.now 0 }
+    ensures { result ≡ no_lines s area.now r heads.now 0 }
 {
-    let mut j: usize = 0;
-    while j < heads.len() {
-        match read_head(area, heads[j], s, r, (5 + 5 * j) as u16) {
-            HeadRead::Whole(h) => {
-                if h.count != 0 {
-                    return Lines::Some;
-                }
-                j += 1;
-            }
-            HeadRead::Broken => {
-                return Lines::Broken;
-            }
+    for (j, cap) in heads.iter().enumerate() {
+        if read_head(area, *cap, s, r, (5 + 5 * j) as u16)?.count != 0 {
+            return Ok(false);
         }
     }
-    Lines::None
+    Ok(true)
 }
 
 // The primary of the secondary r, found from its key and read whole; its count is lowered and so is not 0.
-#[derive(Clone, Copy)]
-pub enum Lower {
-    To(Lowered),
-    Broken,
-}
-
-pub fn lowered(area: &[u16], m: Master, r: u32) -> Lower
+#[tactic(auto, unfolding(spec::specs::Master::lowered), using(spec::specs::Follow::goes, spec::specs::Follow::stops))]
+pub fn lowered(area: &[u16], m: Master, r: u32) -> Result<Lowered, Refusal>
     requires { (1 ≤ r) × (1 ≤ m.shape.cap) }
-    ensures { lowered_out result ≡ lowered_in m area.now r }
+    ensures is { result ≡ lowered m area.now r }
+    ensures found { IfOk result (λ q. 1 ≤ q.at) }
 {
-    match primary_of(area, m, r) {
-        Num::Broken => Lower::Broken,
-        Num::Good(p) => match synonyms(area, m.shape, p) {
-            HeadRead::Broken => Lower::Broken,
-            HeadRead::Whole(z) => {
-                if z.count == 0 {
-                    return Lower::Broken;
-                }
-                Lower::To(Lowered {
-                    at: p,
-                    count: z.count - 1,
-                })
-            }
-        },
+    let at = primary_of(area, m, r)?;
+    let z = synonyms(area, m.shape, at)?;
+    if z.count == 0 {
+        return Err(Refusal::Broken);
     }
+    Ok(Lowered {
+        at,
+        count: z.count - 1,
+    })
 }

@@ -197,13 +197,15 @@ module _ {root : List ℕ} {s p : ℕ} {a : Area} (R : Readable root s p a) wher
         links_saved : saved_links (shape_of root s) a c.path x ≡ peek_links (shape_of root s) a x (links_of p)
         links_saved = other _ _ (ne_eqb c.path 0 off_zero) (ap (λ q. peek_links (shape_of root s) a x (links_of q)) on)
 
-        shown : accept record {
-          status = status_words (shape_of root s).entry x 0 (saved_links (shape_of root s) a c.path x);
-          cursor = at_record c x (saved_links (shape_of root s) a c.path x);
-          passed = none_passed;
-          area = a;
-          words = entry_at (shape_of root s) a x;
-        } ≡ accept (got c x)
+        shown : ◌≡◌ {A = Outcome Done}
+            (accept record {
+              status = status_words (shape_of root s).entry x 0 (saved_links (shape_of root s) a c.path x);
+              cursor = at_record c x (saved_links (shape_of root s) a c.path x);
+              passed = none_passed;
+              area = a;
+              words = entry_at (shape_of root s) a x;
+            })
+            (accept (got c x))
         shown = rw links_saved
 
   -- ---- one get after another

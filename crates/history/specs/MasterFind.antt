@@ -11,7 +11,7 @@ use Rattle.std.proofs.Math.Nat.{suc-ne-zero}
 use Rattle.std.proofs.Math.Decide.{ℕ_discrete, dec_lt}
 use Rattle.spec.specs.declared.Shape.{Shape}
 use Rattle.spec.specs.declared.Master.{Master}
-use Rattle.spec.specs.Outcome.{accept}
+use Rattle.spec.specs.Outcome.{Outcome, accept}
 use Rattle.spec.specs.Words.{same}
 use Rattle.spec.specs.Area.{Area, live}
 use Rattle.spec.specs.Master.{address, key_at, find_along, find_primary, find_key, next_up, unused_from}
@@ -81,7 +81,7 @@ module _ {size : ℕ} {m : Master} {a : Area} (M : MasterOk size m) (I : MasterI
           → find_along m a key n (head_in a m.shape (suc x) 0).fore ≡ accept (rec_of (scan (address m) same (entries m a) key (suc k) (suc x)))
       on e h = rw e (ap (find_along m a key n) (next_there (suc x) (hd 0 xs) t.0) ∙ rw t.0 h)
 
-  says : {f : Found} {r : ℕ} → found_in m a key ≡ f → rec_of f ≡ r → accept r ≡ accept (rec_of (found_in m a key))
+  says : {f : Found} {r : ℕ} → found_in m a key ≡ f → rec_of f ≡ r → ◌≡◌ {A = Outcome ℕ} (accept r) (accept (rec_of (found_in m a key)))
   says e q = ap accept (sym (ap rec_of e ∙ q))
 
   module _ (e : (entries m a).live (address m key) ≡ true) where

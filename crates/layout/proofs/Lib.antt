@@ -1,2 +1,4 @@
-pub mod Lengths
+pub mod Good
+pub mod Starts
 pub mod ViewRules
+pub mod Heads

@@ -1,14 +1,23 @@
 -- What the views of a good root's sets give: each is its definition, with the facts that go on from it.
 -- Assumes nothing.
-use Rattle.std.specs.Prelude.{ℕ, ◌+◌, ◌*◌, ◌≤◌, ◌-◌, ◌≡◌, true, List, ◌++◌, take, ltb}
+use Rattle.std.specs.Prelude.{ℕ, ◌+◌, ◌*◌, ◌≤◌, ◌-◌, ◌≡◌, true, List, get_or, Option, Some, None}
+use Rattle.spec.specs.declared.Field.{Field}
 use Rattle.spec.specs.declared.Shape.{Shape}
 use Rattle.spec.specs.declared.Master.{Master}
 use Rattle.spec.specs.declared.Path.{Path}
-use Rattle.spec.specs.Root.{kind, key_item, item_type, automatic, is_text, path_master, path_search, path_sort, leading, leading_from}
-use Rattle.spec.specs.Layout.{entry_length, field_of, shape_of, master_of, path_of, sort_of, heads_from, heads_in}
-use Rattle.layout.specs.declared.Heads.{Heads}
-use Rattle.layout.specs.declared.Key.{Key}
-use Rattle.layout.specs.declared.Sides.{Sides}
+use Rattle.spec.specs.Root.{sets, kind, path_count, path_master, path_sort, leading, root_good}
+use Rattle.rules.specs.declared.Counts.{Counts}
+use Rattle.root.specs.Plan.{place_of, head_number}
+use Rattle.spec.specs.Layout.{entry_length, field_of, shape_of, master_of, path_of}
+
+-- what the judging of a good root counts
+pub record Counted (root : List ℕ) (c : Counts) : Type 0 where
+  pub good : root_good root ≡ true
+  pub leads : (m : ℕ) → 1 ≤ m → m ≤ sets root → get_or c.leads (m - 1) 0 ≡ leading root m (sets root)
+  pub slots :
+      (s p : ℕ) → 1 ≤ s → s ≤ sets root → 1 ≤ p → p ≤ path_count root s →
+      get_or c.slots (place_of s p) 0 ≡ head_number root s p
+  pub entries : (s : ℕ) → 1 ≤ s → s ≤ sets root → get_or c.entries (s - 1) 0 ≡ entry_length root s
 
 -- where a set stands
 pub record Shaped (root : List ℕ) (s : ℕ) (r : Shape) : Type 0 where
@@ -28,6 +37,12 @@ pub record Mastered (root : List ℕ) (m : ℕ) (r : Master) : Type 0 where
   pub leads_high : r.leads ≤ 8
   pub front_is : r.shape.front ≡ 5 + 5 * r.leads
 
+-- the sort item of path p of set s, if the path is sorted: it stands in the entry
+abbrev pub Sorted : List ℕ → ℕ → ℕ → Option Field → Type 0
+Sorted root s p (Some f) =
+    (f ≡ field_of root s (path_sort root s p)) × (1 ≤ path_sort root s p) × (f.at + f.size ≤ entry_length root s)
+Sorted root s p None = path_sort root s p ≡ 0
+
 -- a path: its head is one of its master's, its items stand in the entry, its search item is as long as the key
 pub record Pathed (root : List ℕ) (s p : ℕ) (r : Path) : Type 0 where
   pub is : r ≡ path_of root s p
@@ -38,23 +53,3 @@ pub record Pathed (root : List ℕ) (s p : ℕ) (r : Path) : Type 0 where
   pub search_in : r.search.at + r.search.size ≤ entry_length root s
   pub sort_in : r.sort.at + r.sort.size ≤ entry_length root s
   pub same_size : r.to.key.size ≡ r.search.size
-
--- a master's kind and key
-pub record Keyed (root : List ℕ) (m : ℕ) (r : Key) : Type 0 where
-  pub auto : r.auto ≡ automatic (kind root m)
-  pub text : r.text ≡ is_text (item_type root (key_item root m))
-  pub field : r.field ≡ field_of root m (key_item root m)
-  pub inside : r.field.at + r.field.size ≤ entry_length root m
-
--- the items of a path
-pub record Sided (root : List ℕ) (s p : ℕ) (r : Sides) : Type 0 where
-  pub search : r.search ≡ field_of root s (path_search root s p)
-  pub search_in : r.search.at + r.search.size ≤ entry_length root s
-  pub sorted : r.sorted ≡ ltb 0 (path_sort root s p)
-  pub sort : r.sort ≡ sort_of root s p
-  pub sort_in : r.sort.at + r.sort.size ≤ entry_length root s
-
--- the heads of master m: those of the sets before s, and of the first p paths of set s
-pub record Headed (root : List ℕ) (m s p : ℕ) (h : Heads) : Type 0 where
-  pub caps : take h.count h.caps ≡ heads_in root m (s - 1) ++ heads_from root m s p
-  pub count : h.count ≡ leading root m (s - 1) + leading_from root m s p

@@ -1,8 +1,10 @@
 // A line that a person or a script wrote: its words one after another, a word read as a number, and words compared.
 #![tactic(auto)]
 
-ghost use Rattle.std.specs.Prelude.{◌≡◌, ◌+◌, ◌≤◌, ◌<◌, eqb, length, drop};
-ghost use Rattle.lines.specs.Lines.{blank, letter, other, first, upper_case, alike, number};
+ghost use Rattle.std.specs.Prelude.{◌≡◌, ◌+◌, ◌≤◌, length, drop, eqb};
+ghost use Rattle.std.specs.Iterator.{at_most};
+ghost use Rattle.std.specs.List.{list_all, prefix_len, zip};
+ghost use Rattle.lines.specs.Lines.{blank, letter, other, upper_case, alike, number, FindsWord};
 
 // From the first byte of a word to the byte past its last.
 #[derive(Clone, Copy)]
@@ -11,139 +13,123 @@ pub struct Word {
     pub end: usize,
 }
 
-// A word that is a decimal number up to 4294967295, or that isn't.
-#[derive(Clone, Copy)]
-pub enum Number {
-    Given(u32),
-    Bad,
+// How many bytes other than b stand first.
+fn others(text: &[u8], b: u8) -> usize
+    ensures value { result ≡ prefix_len (other b) text.now }
+    ensures upper_bound { result ≤ length text.now }
+{
+    text.iter().take_while(|x| **x != b).count()
 }
 
-// The place past the blanks that stand at a place.
-fn past_blanks(line: &[u8], from: usize) -> usize
-    requires { from ≤ length line.now }
-    ensures value { result ≡ from + first blank (drop from line.now) }
-    ensures lower_bound { (from ≤ result) × (result ≤ length line.now) }
+// How many blanks stand first.
+fn blanks(text: &[u8]) -> usize
+    ensures value { result ≡ prefix_len blank text.now }
+    ensures upper_bound { result ≤ length text.now }
 {
-    let mut i = from;
-    while i < line.len() {
-        let b = line[i];
-        if 32 < b {
-            return i;
-        }
-        i += 1;
-    }
-    i
+    text.iter().take_while(|b| **b < 33).count()
 }
 
-// The place past the letters that stand at a place: everything that isn't a blank counts as a letter.
-fn past_letters(line: &[u8], from: usize) -> usize
-    requires { from ≤ length line.now }
-    ensures value { result ≡ from + first letter (drop from line.now) }
-    ensures lower_bound { (from ≤ result) × (result ≤ length line.now) }
+// How many letters stand first: everything that isn't a blank counts as a letter.
+fn letters(text: &[u8]) -> usize
+    ensures value { result ≡ prefix_len letter text.now }
+    ensures upper_bound { result ≤ length text.now }
 {
-    let mut i = from;
-    while i < line.len() {
-        let b = line[i];
-        if b < 33 {
-            return i;
-        }
-        i += 1;
-    }
-    i
+    text.iter().take_while(|b| 32 < **b).count()
 }
 
 // The place of the next byte b at a place or after it; the line's end where there is none.
 pub fn place_of(line: &[u8], from: usize, b: u8) -> usize
     requires { from ≤ length line.now }
-    ensures value { result ≡ from + first (other b) (drop from line.now) }
+    ensures value { result ≡ from + prefix_len (other b) (drop from line.now) }
     ensures lower_bound { (from ≤ result) × (result ≤ length line.now) }
 {
-    let mut i = from;
-    while i < line.len() {
-        let x = line[i];
-        if x == b {
-            return i;
-        }
-        i += 1;
-    }
-    i
+    from + others(&line[from..], b)
 }
 
-// The next word at a place or after it; where none is left, an empty one at the line's end.
+// The next word at a place or after it; where none is left, an empty one at the line's end. Everything that isn't a blank is a
+// letter of a word.
 pub fn next_word(line: &[u8], from: usize) -> Word
     requires { from ≤ length line.now }
-    ensures at_value { result.at ≡ from + first blank (drop from line.now) }
-    ensures end_value { result.end ≡ result.at + first letter (drop result.at line.now) }
+    ensures at_value { result.at ≡ from + prefix_len blank (drop from line.now) }
+    ensures end_value { result.end ≡ result.at + prefix_len letter (drop result.at line.now) }
     ensures from_le_at { (from ≤ result.at) × ((result.at ≤ result.end) × (result.end ≤ length line.now)) }
 {
-    let at = past_blanks(line, from);
-    let end = past_letters(line, at);
+    let at = from + blanks(&line[from..]);
+    let end = at + letters(&line[at..]);
     Word { at, end }
 }
 
-// A word as a number.
-pub fn number_of(word: &[u8]) -> Number
+// The words of a line, one after another, from what of it is still unread.
+#[derive(Clone, Copy, Debug)]
+pub struct Words<'a> {
+    pub rest: &'a [u8],
+}
+
+impl<'a> Words<'a> {
+    pub fn new(line: &'a [u8]) -> Words<'a>
+        ensures { result.rest.now ≡ line.now }
+    {
+        Words { rest: line }
+    }
+}
+
+impl<'a> Iterator for Words<'a> {
+    type Item = &'a [u8];
+
+    ghost next_gives = { λ s r t. FindsWord s.rest.now r t.rest.now };
+
+    ghost remaining = { λ s. at_most (length s.rest.now) };
+
+    fn next(&mut self) -> Option<&'a [u8]> {
+        let word = next_word(self.rest, 0);
+        let (at, end) = (word.at, word.end);
+        if at == end {
+            return None;
+        }
+        let found = &self.rest[at..end];
+        self.rest = &self.rest[end..];
+        Some(found)
+    }
+}
+
+// A word as a decimal number up to 4294967295; none where it is no such number.
+pub fn number_of(word: &[u8]) -> Option<u32>
     ensures { result ≡ number word.now }
 {
-    if word.len() == 0 {
-        return Number::Bad;
+    if word.is_empty() {
+        return None;
     }
-    let mut value: u64 = 0;
-    let mut i: usize = 0;
-    while i < word.len() {
-        let b = word[i];
-        if b < 48 {
-            return Number::Bad;
+    let mut value: u32 = 0;
+    for b in word {
+        if *b < b'0' || b'9' < *b {
+            return None;
         }
-        if 57 < b {
-            return Number::Bad;
-        }
-        value = 10 * value + ((b - 48) as u64);
-        if 4294967295 < value {
-            return Number::Bad;
-        }
-        i += 1;
+        value = value.checked_mul(10)?.checked_add((*b - b'0') as u32)?;
     }
-    Number::Given(value as u32)
+    Some(value)
 }
 
 fn upper_case(b: u8) -> u8
     ensures { result ≡ upper_case b }
 {
-    if b < 97 {
-        return b;
+    match b {
+        b'a'..=b'z' => b - 32,
+        _ => b,
     }
-    if 122 < b {
-        return b;
-    }
-    b - 32
 }
 
-// Whether two letters are alike, upper and lower case aside.
-fn is_letter(x: u8, y: u8) -> bool
-    ensures { result ≡ eqb (upper_case x) (upper_case y) }
+// Whether the letters of two words are alike, one by one, as far as both words have any.
+fn letters_alike(a: &[u8], b: &[u8]) -> bool
+    ensures { result ≡ list_all (λ p. eqb (upper_case p.0) (upper_case p.1)) (zip a.now b.now) }
 {
-    let a = upper_case(x);
-    let b = upper_case(y);
-    a == b
+    a.iter()
+        .zip(b)
+        .all(|(x, y)| upper_case(*x) == upper_case(*y))
 }
 
 // Whether two words are alike, upper and lower case aside.
 pub fn is_word(a: &[u8], b: &[u8]) -> bool
     ensures { result ≡ alike a.now b.now }
 {
-    if a.len() != b.len() {
-        return false;
-    }
-    let mut i: usize = 0;
-    while i < a.len() {
-        let x = a[i];
-        let y = b[i];
-        if is_letter(x, y) {
-            i += 1;
-        } else {
-            return false;
-        }
-    }
-    true
+    a.len() == b.len() && letters_alike(a, b)
 }

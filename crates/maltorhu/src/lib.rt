@@ -6,58 +6,47 @@
 ghost use Rattle.std.specs.Prelude.{◌≡◌, length};
 ghost use Rattle.spec.specs.Calls.{make as make_base, find as find_chain, get as get_entry, put as put_entry, update as update_entry, delete as delete_entry};
 ghost use Rattle.lent.specs.Lent.{cursors_of, session_words};
-ghost use Rattle.maltorhu.specs.Interface.{make_lent, find_lent, get_lent, put_lent, update_lent, delete_lent, pack_lent, unpack_lent};
+ghost use Rattle.maltorhu.specs.Interface.{right, make_lent, find_lent, get_lent, put_lent, update_lent, delete_lent, pack_lent, unpack_lent};
 
 use engine::{delete, find, get, make, put, update};
-use lent::{pack, put_passed, put_session, put_status, session_of, unpack};
+use lent::{pack, put_session, session_of, unpack};
 use session::Answer;
 
 #[unsafe(no_mangle)]
+#[tactic(auto, using(crate::proofs::Laws::make_told, crate::proofs::Laws::make_untold))]
 pub extern "C" fn dbmake(root: &[u16], area: &mut [u16], status: &mut [u16]) -> u16
     ensures code { result ≡ (make_lent root.now area.old status.old).code }
     ensures area { area.new ≡ (make_lent root.now area.old status.old).area }
     ensures status { status.new ≡ (make_lent root.now area.old status.old).status }
 {
-    if status.len() == 10 {
-        let w = make(root, area);
-        put_status(status, w);
-        0
-    } else {
-        1
+    if status.len() != 10 {
+        return 1;
     }
+    status.copy_from_slice(&make(root, area));
+    0
 }
 
-// The cursors and the status that a call answers.
+// Whether cursors and status have their lengths.
+#[tactic(auto, unfolding(crate::specs::Interface::right))]
+fn is_right(cursors: &[u32], status: &[u16]) -> bool
+    ensures { result ≡ right cursors.now status.now }
+{
+    cursors.len() == 64 && status.len() == 10
+}
+
+// The cursors and the status that a call answers. Inlined, the answer is not copied once more.
+#[inline(always)]
 fn give_back(cursors: &mut [u32], status: &mut [u16], a: Answer)
     requires { (64 ≡ length cursors.old) × (10 ≡ length status.old) }
     ensures cursors { cursors.new ≡ session_words a.session.cursors }
     ensures status { status.new ≡ a.status }
 {
-    let s = a.session;
-    let w = a.status;
-    put_session(cursors, s);
-    put_status(status, w);
-}
-
-fn find_lent(
-    root: &[u16],
-    area: &[u16],
-    cursors: &mut [u32],
-    set: u16,
-    item: u16,
-    value: &[u16],
-    status: &mut [u16],
-)
-    requires { (64 ≡ length cursors.old) × (10 ≡ length status.old) }
-    ensures cursors { cursors.new ≡ session_words (find_chain root.now area.now (cursors_of cursors.old) set item value.now).cursors }
-    ensures status { status.new ≡ (find_chain root.now area.now (cursors_of cursors.old) set item value.now).status }
-{
-    let s = session_of(cursors);
-    let a = find(root, area, s, set, item, value);
-    give_back(cursors, status, a);
+    put_session(cursors, a.session);
+    status.copy_from_slice(&a.status);
 }
 
 #[unsafe(no_mangle)]
+#[tactic(auto, using(crate::proofs::Laws::right_lengths, crate::proofs::Laws::find_told, crate::proofs::Laws::find_untold))]
 pub extern "C" fn dbfind(
     root: &[u16],
     area: &[u16],
@@ -71,40 +60,17 @@ pub extern "C" fn dbfind(
     ensures cursors { cursors.new ≡ (find_lent root.now area.now cursors.old set item value.now status.old).cursors }
     ensures status { status.new ≡ (find_lent root.now area.now cursors.old set item value.now status.old).status }
 {
-    if cursors.len() == 64 {
-        if status.len() == 10 {
-            find_lent(root, area, cursors, set, item, value, status);
-            0
-        } else {
-            1
-        }
-    } else {
-        1
+    if !is_right(cursors, status) {
+        return 1;
     }
-}
-
-fn get_lent(
-    root: &[u16],
-    area: &[u16],
-    cursors: &mut [u32],
-    set: u16,
-    mode: u16,
-    number: u32,
-    value: &[u16],
-    buffer: &mut [u16],
-    status: &mut [u16],
-)
-    requires { (64 ≡ length cursors.old) × (10 ≡ length status.old) }
-    ensures cursors { cursors.new ≡ session_words (get_entry root.now area.now (cursors_of cursors.old) set mode number value.now buffer.old).cursors }
-    ensures buffer { buffer.new ≡ (get_entry root.now area.now (cursors_of cursors.old) set mode number value.now buffer.old).buffer }
-    ensures status { status.new ≡ (get_entry root.now area.now (cursors_of cursors.old) set mode number value.now buffer.old).status }
-{
-    let s = session_of(cursors);
-    let a = get(root, area, s, set, mode, number, value, buffer);
-    give_back(cursors, status, a);
+    let session = session_of(cursors);
+    let answer = find(root, area, session, set, item, value);
+    give_back(cursors, status, answer);
+    0
 }
 
 #[unsafe(no_mangle)]
+#[tactic(auto, using(crate::proofs::Laws::right_lengths, crate::proofs::Laws::get_told, crate::proofs::Laws::get_untold))]
 pub extern "C" fn dbget(
     root: &[u16],
     area: &[u16],
@@ -121,43 +87,17 @@ pub extern "C" fn dbget(
     ensures buffer { buffer.new ≡ (get_lent root.now area.now cursors.old set mode number value.now buffer.old status.old).buffer }
     ensures status { status.new ≡ (get_lent root.now area.now cursors.old set mode number value.now buffer.old status.old).status }
 {
-    if cursors.len() == 64 {
-        if status.len() == 10 {
-            get_lent(
-                root, area, cursors, set, mode, number, value, buffer, status,
-            );
-            0
-        } else {
-            1
-        }
-    } else {
-        1
+    if !is_right(cursors, status) {
+        return 1;
     }
-}
-
-fn put_lent(
-    root: &[u16],
-    area: &mut [u16],
-    cursors: &mut [u32],
-    set: u16,
-    entry: &[u16],
-    status: &mut [u16],
-    passed: &mut [u16],
-)
-    requires { (64 ≡ length cursors.old) × (10 ≡ length status.old) × (4 ≡ length passed.old) }
-    ensures area { area.new ≡ (put_entry root.now area.old (cursors_of cursors.old) set entry.now).area }
-    ensures cursors { cursors.new ≡ session_words (put_entry root.now area.old (cursors_of cursors.old) set entry.now).cursors }
-    ensures status { status.new ≡ (put_entry root.now area.old (cursors_of cursors.old) set entry.now).status }
-    ensures passed { passed.new ≡ (put_entry root.now area.old (cursors_of cursors.old) set entry.now).passed }
-{
-    let s = session_of(cursors);
-    let a = put(root, area, s, set, entry);
-    let p = a.passed;
-    put_passed(passed, p);
-    give_back(cursors, status, a);
+    let session = session_of(cursors);
+    let answer = get(root, area, session, set, mode, number, value, buffer);
+    give_back(cursors, status, answer);
+    0
 }
 
 #[unsafe(no_mangle)]
+#[tactic(auto, using(crate::proofs::Laws::right_lengths, crate::proofs::Laws::put_told, crate::proofs::Laws::put_untold, crate::proofs::Laws::put_unpassed))]
 pub extern "C" fn dbput(
     root: &[u16],
     area: &mut [u16],
@@ -173,41 +113,18 @@ pub extern "C" fn dbput(
     ensures status { status.new ≡ (put_lent root.now area.old cursors.old set entry.now status.old passed.old).status }
     ensures passed { passed.new ≡ (put_lent root.now area.old cursors.old set entry.now status.old passed.old).passed }
 {
-    if cursors.len() == 64 {
-        if status.len() == 10 {
-            if passed.len() == 4 {
-                put_lent(root, area, cursors, set, entry, status, passed);
-                0
-            } else {
-                1
-            }
-        } else {
-            1
-        }
-    } else {
-        1
+    if !is_right(cursors, status) || passed.len() != 4 {
+        return 1;
     }
-}
-
-fn update_lent(
-    root: &[u16],
-    area: &mut [u16],
-    cursors: &mut [u32],
-    set: u16,
-    entry: &[u16],
-    status: &mut [u16],
-)
-    requires { (64 ≡ length cursors.old) × (10 ≡ length status.old) }
-    ensures area { area.new ≡ (update_entry root.now area.old (cursors_of cursors.old) set entry.now).area }
-    ensures cursors { cursors.new ≡ session_words (update_entry root.now area.old (cursors_of cursors.old) set entry.now).cursors }
-    ensures status { status.new ≡ (update_entry root.now area.old (cursors_of cursors.old) set entry.now).status }
-{
-    let s = session_of(cursors);
-    let a = update(root, area, s, set, entry);
-    give_back(cursors, status, a);
+    let session = session_of(cursors);
+    let answer = put(root, area, session, set, entry);
+    passed.copy_from_slice(&answer.passed);
+    give_back(cursors, status, answer);
+    0
 }
 
 #[unsafe(no_mangle)]
+#[tactic(auto, using(crate::proofs::Laws::right_lengths, crate::proofs::Laws::update_told, crate::proofs::Laws::update_untold))]
 pub extern "C" fn dbupdate(
     root: &[u16],
     area: &mut [u16],
@@ -221,30 +138,17 @@ pub extern "C" fn dbupdate(
     ensures cursors { cursors.new ≡ (update_lent root.now area.old cursors.old set entry.now status.old).cursors }
     ensures status { status.new ≡ (update_lent root.now area.old cursors.old set entry.now status.old).status }
 {
-    if cursors.len() == 64 {
-        if status.len() == 10 {
-            update_lent(root, area, cursors, set, entry, status);
-            0
-        } else {
-            1
-        }
-    } else {
-        1
+    if !is_right(cursors, status) {
+        return 1;
     }
-}
-
-fn delete_lent(root: &[u16], area: &mut [u16], cursors: &mut [u32], set: u16, status: &mut [u16])
-    requires { (64 ≡ length cursors.old) × (10 ≡ length status.old) }
-    ensures area { area.new ≡ (delete_entry root.now area.old (cursors_of cursors.old) set).area }
-    ensures cursors { cursors.new ≡ session_words (delete_entry root.now area.old (cursors_of cursors.old) set).cursors }
-    ensures status { status.new ≡ (delete_entry root.now area.old (cursors_of cursors.old) set).status }
-{
-    let s = session_of(cursors);
-    let a = delete(root, area, s, set);
-    give_back(cursors, status, a);
+    let session = session_of(cursors);
+    let answer = update(root, area, session, set, entry);
+    give_back(cursors, status, answer);
+    0
 }
 
 #[unsafe(no_mangle)]
+#[tactic(auto, using(crate::proofs::Laws::right_lengths, crate::proofs::Laws::delete_told, crate::proofs::Laws::delete_untold))]
 pub extern "C" fn dbdelete(
     root: &[u16],
     area: &mut [u16],
@@ -257,16 +161,13 @@ pub extern "C" fn dbdelete(
     ensures cursors { cursors.new ≡ (delete_lent root.now area.old cursors.old set status.old).cursors }
     ensures status { status.new ≡ (delete_lent root.now area.old cursors.old set status.old).status }
 {
-    if cursors.len() == 64 {
-        if status.len() == 10 {
-            delete_lent(root, area, cursors, set, status);
-            0
-        } else {
-            1
-        }
-    } else {
-        1
+    if !is_right(cursors, status) {
+        return 1;
     }
+    let session = session_of(cursors);
+    let answer = delete(root, area, session, set);
+    give_back(cursors, status, answer);
+    0
 }
 
 // Characters into words, the first of two in the high byte, blanks past the text's end.

@@ -11,31 +11,6 @@ use Rattle.spec.specs.Area.{Area, live, follow, synonyms, value}
 use Rattle.spec.specs.Master.{address, Put, unused_from, join, move_away, displace, put_held, put_entry}
 use Rattle.area.specs.AreaLaws.{Then, then_bind, then_told}
 use Rattle.find.specs.FindLaws.{then_if, then_after, address_low, address_high, unused_fits}
-use Rattle.master_put.specs.declared.Entered.{Entered}
-use Rattle.master_put.specs.declared.Entered.TheVariants.{At, Refused}
-use Rattle.master_put.specs.Answers.{area_out, put_out, Unwritten, Unput}
-
--- ---- an answer and the outcome that it stands for
-module _ (b : Bool) (a : List ℕ) (o : Outcome Area) (e : area_out b a ≡ o) where
-  pub area_done : b ≡ true → o ≡ accept a
-  area_done t = sym e ∙ ap (λ (x : Bool). area_out x a) t
-
-  pub area_refused : b ≡ false → o ≡ refuse Broken
-  area_refused t = sym e ∙ ap (λ (x : Bool). area_out x a) t
-
-module _ (w : Entered) (a : List ℕ) (o : Outcome Put) (e : put_out w a ≡ o) where
-  pub put_done : (r : ℕ) → w ≡ At r → o ≡ accept (record { at = r; area = a })
-  put_done r k = sym e ∙ ap (λ (x : Entered). put_out x a) k
-
-  pub put_refused : (why : Refusal) → w ≡ Refused why → o ≡ refuse why
-  put_refused why k = sym e ∙ ap (λ (x : Entered). put_out x a) k
-
--- a step that refuses has written nothing
-pub unwritten : (b : Bool) (a a' : List ℕ) → Unwritten b a a' → b ≡ false → a' ≡ a
-unwritten b a a' h t = subst (λ (x : Bool). Unwritten x a a') t h
-
-pub unput : (w : Entered) (why : Refusal) (a a' : List ℕ) → Unput w a a' → w ≡ Refused why → a' ≡ a
-unput w why a a' h k = subst (λ (x : Entered). Unput x a a') k h
 
 -- ---- the record that a put takes is the primary address or the first unused one
 then_require : (b : Bool) (why : Refusal) → Then (λ _. b ≡ true) (require b why)
@@ -58,13 +33,13 @@ module _ (P : ℕ → Type 0) (m : Master) (full : Refusal) (a entry : List ℕ)
       let h : ℕ = address m (value m.key entry) in
       then_if _ (live m.shape a h) _ _ (then_after _ (synonyms m.shape a h) _ (λ y. held_then h y _ p q)) p
 
-module _ (m : Master) (full : Refusal) (a b entry : List ℕ) (w : Entered) (r : ℕ) (e : put_out w b ≡ put_entry m full a entry) (k : w ≡ At r) where
-  pub put_low : 1 ≤ r
+module _ (m : Master) (full : Refusal) (a entry : List ℕ) (t : Put) (e : put_entry m full a entry ≡ accept t) where
+  pub put_low : 1 ≤ t.at
   put_low =
-      then_told _ (put_entry m full a entry) _ (put_then (λ x. 1 ≤ x) m full a entry (address_low m (value m.key entry)) (λ h. h)) (put_done w b _ e r k)
+      then_told _ (put_entry m full a entry) t (put_then (λ x. 1 ≤ x) m full a entry (address_low m (value m.key entry)) (λ h. h)) e
 
-  pub put_high : 1 ≤ m.shape.cap → r ≤ m.shape.cap
+  pub put_high : 1 ≤ m.shape.cap → t.at ≤ m.shape.cap
   put_high h =
       let l : address m (value m.key entry) ≤ m.shape.cap = address_high m (value m.key entry) h in
-      then_told _ (put_entry m full a entry) _
-      (put_then (λ x. x ≤ m.shape.cap) m full a entry l (λ _. unused_fits m.shape a h m.shape.cap _ l)) (put_done w b _ e r k)
+      then_told _ (put_entry m full a entry) t
+      (put_then (λ x. x ≤ m.shape.cap) m full a entry l (λ _. unused_fits m.shape a h m.shape.cap _ l)) e

@@ -1,179 +1,123 @@
-// What every call asks first: −91, −92, −21 and −93; and the current record that update, delete and mode 1 ask for.
+// What every call asks of a root that goes with the area: −21 and −93; and the current record that update, delete and mode 1 ask
+// for.
 #![tactic(auto)]
 
-ghost use Rattle.std.specs.Prelude.{◌≡◌, ◌&&◌, ◌-◌, ◌≤◌, leb, get_or};
-ghost use Rattle.spec.specs.Cursor.{fresh, current_record as record_current};
-ghost use Rattle.named.specs.Answers.{found_out, knowing_of, Kinded, Names, fits, kept, Chooses, Knows};
+ghost use Rattle.std.specs.Prelude.{◌≡◌, ◌&&◌, ◌≤◌, leb, IfOk};
+ghost use Rattle.spec.specs.Layout.{view_shape};
+ghost use Rattle.spec.specs.Cursor.{paths_in, current_record};
+ghost use Rattle.spec.specs.Calls.{named_cursor};
+ghost use Rattle.named.specs.Named.{view_out, root_out, number_out, set_out, cursor_out, set_named, cursor_named};
 
 use area::live;
-use layout::known;
-use root::{Plan, capacity, kind, path_count, sets};
-use session::{Session, cursor_of};
+use layout::{DetailSet, MasterSet, Root};
+use root::Kind;
+use session::Session;
 use spec::{Cursor, Refusal, Shape};
 
-// Whether root and area go together; or why not.
-#[derive(Clone, Copy)]
-pub enum Knowing {
-    Yes,
-    Refused(Refusal),
+// The named set by its kind.
+#[derive(Drop)]
+pub enum Named<'a> {
+    Master(MasterSet<'a>),
+    Detail(DetailSet<'a>),
 }
 
-#[derive(Clone, Copy)]
-pub struct Knowledge {
-    pub knowing: Knowing,
-    pub plan: Plan,
-}
-
-// The named set by its kind, or why there is none.
-#[derive(Clone, Copy)]
-pub enum Naming {
-    Master,
-    Detail,
-    Refused(Refusal),
-}
-
-#[derive(Clone, Copy)]
-pub struct Named {
-    pub naming: Naming,
-    pub plan: Plan,
-}
-
-// The named set by its kind with its cursor, or why there is none.
-#[derive(Clone, Copy)]
-pub struct Chosen {
-    pub naming: Naming,
-    pub plan: Plan,
-    pub cursor: Cursor,
-}
-
-// A record to be read, or why there is none.
-#[derive(Clone, Copy)]
-pub enum Found {
-    At(u32),
-    Refused(Refusal),
-}
-
-// −91, −92
-fn knowing_of(root: bool, size: bool) -> Knowing
-    ensures { result ≡ knowing_of root size }
-{
-    if root {
-        if size {
-            Knowing::Yes
-        } else {
-            Knowing::Refused(Refusal::BadLength)
+impl<'a> Named<'a> {
+    fn number(&self) -> u16
+        ensures is { result ≡ number_out self.now }
+        ensures within { (1 ≤ result) × (result ≤ 16) }
+    {
+        match self {
+            Named::Master(m) => m.number,
+            Named::Detail(d) => d.number,
         }
-    } else {
-        Knowing::Refused(Refusal::BadRoot)
+    }
+
+    #[tactic(auto, unfolding(spec::specs::Layout::view_shape, spec::specs::Layout::master_of, spec::specs::Layout::detail_of))]
+    pub fn shape(&self) -> Shape
+        ensures is { result ≡ view_shape (view_out self.now) }
+        ensures high { result.cap ≤ 4095 }
+    {
+        match self {
+            Named::Master(m) => m.master.shape,
+            Named::Detail(d) => d.shape,
+        }
+    }
+
+    #[tactic(auto, unfolding(spec::specs::Cursor::paths_in, spec::specs::Layout::detail_of))]
+    fn path_count(&self) -> u16
+        ensures is { result ≡ paths_in (view_out self.now) }
+        ensures few { result ≤ 4 }
+    {
+        match self {
+            Named::Master(_) => 0,
+            Named::Detail(d) => d.path_count(),
+        }
+    }
+
+    // −93: its cursor, if it fits.
+    #[tactic(auto, unfolding(spec::specs::Calls::named_cursor, spec::specs::Cursor::cursor_good), using(spec::specs::Follow::goes, spec::specs::Follow::stops, spec::specs::Follow::passes, spec::specs::Follow::fails))]
+    pub fn cursor(&self, session: &Session) -> Result<Cursor, Refusal>
+        ensures is { result ≡ named_cursor (view_out self.now) session.now.cursors (number_out self.now) }
+        ensures within { IfOk result (λ c. (c.path ≤ 4) × (c.current ≤ 4095)) }
+    {
+        let c = session.cursor_of(self.number());
+        if !cursor_fits(c, self.path_count(), self.shape().cap) {
+            return Err(Refusal::BadCursor);
+        }
+        Ok(c)
     }
 }
 
-pub fn know(root: &[u16], area: &[u16]) -> Knowledge
-    ensures { Knows root.now area.now result.knowing result.plan }
+// −21: "no such set"
+#[tactic(auto, using(crate::proofs::Laws::set_zero, crate::proofs::Laws::set_above))]
+pub fn name_set<'a>(root: &'a Root<'a>, set: u16) -> Result<Named<'a>, Refusal>
+    ensures is { set_out result ≡ set_named root.now.words.now set }
+    ensures root { IfOk result (λ named. root_out named ≡ root.now) }
+    ensures number { IfOk result (λ named. number_out named ≡ set) }
+    ensures within { IfOk result (λ _. (1 ≤ set) × (set ≤ 16)) }
 {
-    let k = known(root, area.len());
-    let plan = k.plan;
-    Knowledge {
-        knowing: knowing_of(k.root, k.size),
-        plan,
+    if set == 0 || root::sets(root.words) < set {
+        return Err(Refusal::NoSet);
+    }
+    match root.kind_of(set) {
+        Kind::Detail => Ok(Named::Detail(root.detail_set(set))),
+        _ => Ok(Named::Master(root.master_set(set))),
     }
 }
 
-// −21, of a good root: "no such set"
-fn naming_of(root: &[u16], set: u16) -> Naming
-    ensures { Kinded root.now set result }
-{
-    if set == 0 {
-        return Naming::Refused(Refusal::NoSet);
-    }
-    if sets(root) < set {
-        return Naming::Refused(Refusal::NoSet);
-    }
-    if kind(root, set) == 3 {
-        Naming::Detail
-    } else {
-        Naming::Master
-    }
-}
-
-pub fn name_set(root: &[u16], area: &[u16], set: u16) -> Named
-    ensures { Names root.now area.now set result.naming result.plan }
-{
-    let k = know(root, area);
-    let plan = k.plan;
-    let y = k.knowing;
-    match y {
-        Knowing::Yes => Named {
-            naming: naming_of(root, set),
-            plan: plan,
-        },
-        Knowing::Refused(why) => Named {
-            naming: Naming::Refused(why),
-            plan: plan,
-        },
-    }
-}
-
-// −93: "this set's cursor: path above its paths, or current record above C"
+// "this set's cursor: path above its paths, or current record above C"
 pub fn cursor_fits(c: Cursor, paths: u16, cap: u16) -> bool
     ensures { result ≡ (leb c.path paths && leb c.current cap) }
 {
-    if c.path <= (paths as u32) {
-        c.current <= (cap as u32)
-    } else {
-        false
-    }
+    c.path <= (paths as u32) && c.current <= (cap as u32)
 }
 
-// The cursor of a set that the root has, if it fits.
-fn choose(root: &[u16], session: Session, set: u16, naming: Naming, plan: Plan) -> Chosen
-    requires { (1 ≤ set) × (set ≤ 16) }
-    ensures cursor { result.cursor ≡ get_or session.cursors (set - 1) fresh }
-    ensures naming { result.naming ≡ kept (fits root.now set result.cursor) naming }
-    ensures plan { result.plan ≡ plan }
+// The named set with its cursor: −21, −93.
+#[tactic(auto, unfolding(crate::specs::Named::cursor_named), using(spec::specs::Follow::goes, spec::specs::Follow::stops))]
+pub fn name_cursor<'a>(
+    root: &'a Root<'a>,
+    session: &Session,
+    set: u16,
+) -> Result<(Named<'a>, Cursor), Refusal>
+    ensures is { cursor_out result ≡ cursor_named root.now.words.now session.now.cursors set }
+    ensures root { IfOk result (λ named. root_out named.0 ≡ root.now) }
+    ensures number { IfOk result (λ named. number_out named.0 ≡ set) }
+    ensures within { IfOk result (λ _. (1 ≤ set) × (set ≤ 16)) }
+    ensures path { IfOk result (λ named. (named.1.path ≤ 4) × (named.1.current ≤ 4095)) }
 {
-    let c = cursor_of(session, set);
-    if cursor_fits(c, path_count(root, set), capacity(root, set)) {
-        return Chosen {
-            naming: naming,
-            plan: plan,
-            cursor: c,
-        };
-    }
-    Chosen {
-        naming: Naming::Refused(Refusal::BadCursor),
-        plan: plan,
-        cursor: c,
-    }
-}
-
-pub fn name_cursor(root: &[u16], area: &[u16], session: Session, set: u16) -> Chosen
-    ensures { Chooses root.now area.now session.cursors set result.naming result.plan result.cursor }
-{
-    let b = name_set(root, area, set);
-    let plan = b.plan;
-    let n = b.naming;
-    match n {
-        Naming::Refused(why) => Chosen {
-            naming: Naming::Refused(why),
-            plan: plan,
-            cursor: Cursor::new(),
-        },
-        Naming::Master => choose(root, session, set, Naming::Master, plan),
-        Naming::Detail => choose(root, session, set, Naming::Detail, plan),
-    }
+    let named = name_set(root, set)?;
+    let c = named.cursor(session)?;
+    Ok((named, c))
 }
 
 // "the current record; 17 if none or unused"
-pub fn current_record(area: &[u16], s: Shape, c: Cursor) -> Found
-    ensures { found_out result ≡ record_current s area.now c }
+#[tactic(auto, unfolding(spec::specs::Cursor::current_record), using(spec::specs::Follow::goes, spec::specs::Follow::stops))]
+pub fn current_record(area: &[u16], s: Shape, c: Cursor) -> Result<u32, Refusal>
+    ensures is { result ≡ current_record s area.now c }
+    ensures there { IfOk result (λ r. (1 ≤ r) × (r ≡ c.current)) }
 {
-    if c.current == 0 {
-        return Found::Refused(Refusal::NoRecord);
+    if c.current == 0 || !live(area, s, c.current) {
+        return Err(Refusal::NoRecord);
     }
-    if live(area, s, c.current) {
-        Found::At(c.current)
-    } else {
-        Found::Refused(Refusal::NoRecord)
-    }
+    Ok(c.current)
 }

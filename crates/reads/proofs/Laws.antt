@@ -1,122 +1,48 @@
--- Laws of the reading calls: each reading step, the record that a get asks for, and what it tells. Assumes nothing.
-use Prim.Native.Nat.{ℕ, zero, suc, ◌+◌, ◌-◌, ◌≤◌, ◌<◌}
-use mathlib.Core.Path.{◌≡◌, refl, sym, ◌∙◌, ap}
-use mathlib.Core.Bool.{Bool, true, false, cond}
-use mathlib.Core.List.{List, []}
-use native.Mathlib.Omega.{arith}
-use borrow.Author.Tests.{lt-ltb, le-ltb, eq-eqb, ne_eqb, le-leb, lt-leb, ltb-true, eqb-false}
-use lib.Dec.{leb, ltb, eqb}
-use lib.ListN.{length}
+-- Laws of the reading calls: the searches up and down, the get modes, and what a get tells. Assumes nothing.
+use Rattle.std.specs.Prelude.{ℕ, zero, suc, ◌+◌, ◌-◌, ◌≤◌, ◌<◌, ◌≡◌, refl, Bool, true, false, cond, List, length, eqb}
+use Rattle.std.proofs.Common.{sym, ◌∙◌, ap, arith, eq-eqb, ne_eqb}
+use Rattle.std.proofs.Math.Logic.{dite}
+use Rattle.std.proofs.Math.Decide.{ℕ_discrete}
+use Rattle.std.proofs.lemmas.List.{get_or_past}
 use Rattle.spec.specs.declared.Refusal.{Refusal}
-use Rattle.spec.specs.declared.Refusal.TheVariants.{NoMode as NotAMode, WrongLength, NoPath, ShortBuffer, NoRecord, NoneBelow, NoneAbove, RecordZero, PastCapacity, ChainStart, ChainEnd, Broken}
-use Rattle.spec.specs.declared.Shape.{Shape}
+use Rattle.spec.specs.declared.Refusal.TheVariants.{NoSet, NotSearched, WrongLength, NoMode}
 use Rattle.spec.specs.declared.Cursor.{Cursor}
-use Rattle.spec.specs.declared.Master.{Master}
-use Rattle.spec.specs.Outcome.{Outcome as OutcomeOf, accept, refuse, require, ◌>>=◌}
-use Rattle.spec.specs.Layout.{Detail, a_master, a_detail}
-use Rattle.spec.specs.Area.{live, read, follow}
-use Rattle.spec.specs.Master.{find_key}
-use Rattle.spec.specs.Cursor.{Reading as ReadBy, by_number, along, by_key, no_mode, readings, reading, mode_good, value_good, path_chosen, nonzero, current_record, live_above, live_down, given_record, saved_record, keyed_record, numbered_record, chained_record, record_for, current, above, below, given, forward, backward}
+use Rattle.spec.specs.declared.Head.{Head}
+use Rattle.spec.specs.declared.Links.{Links}
+use Rattle.spec.specs.declared.Master.{Master as MasterBy}
+use Rattle.spec.specs.declared.Shape.{Shape}
+use Rattle.spec.specs.declared.Path.{Path}
+use Rattle.spec.specs.Outcome.{Outcome, accept, refuse}
+use Rattle.spec.specs.Root.{item_length, search_path}
+use Rattle.spec.specs.Layout.{Detail as DetailBy, View, a_master, a_detail, detail_of}
+use Rattle.spec.specs.Area.{live, peek_links, read_links, synonyms, synonym_count}
+use Rattle.spec.specs.Cursor.{live_above, live_down, nonzero, Reading, by_number, current, above, below, given, along, forward, backward, by_key, no_mode, readings, reading, mode_good}
+use Rattle.spec.specs.Calls.{Done, named_cursor, the_detail, find_chain, find_on, find_steps, get_on, get_steps}
 use Rattle.spec.specs.Follow.{goes, stops, taken, other, passes, fails}
 use Rattle.area.specs.MapLaws.{Alike}
-use Rattle.area.specs.AreaLaws.{Then, then_bind, then_told, read_good, read_bad}
-use Rattle.find.specs.declared.Num.{Num}
-use Rattle.find.specs.declared.Num.TheVariants.{Good, Broken as Lost}
-use Rattle.find.specs.Answers.{num_out}
-use Rattle.find.specs.FindLaws.{num_good, num_broken, follow_live, follow_unused}
-use Rattle.named.specs.declared.Found.{Found}
-use Rattle.named.specs.declared.Found.TheVariants.{At}
-use Rattle.named.specs.Answers.{found_out}
-use Rattle.named.specs.NamedLaws.{found_at}
-use Rattle.reads.specs.declared.ByNumber.{ByNumber}
-use Rattle.reads.specs.declared.ByNumber.TheVariants.{Current, Above, Below, Given}
-use Rattle.reads.specs.declared.Along.{Along}
-use Rattle.reads.specs.declared.Along.TheVariants.{Forward, Backward}
-use Rattle.reads.specs.declared.Reading.{Reading}
-use Rattle.reads.specs.declared.Reading.TheVariants.{Numbered, Chained, Keyed, NoMode}
-use Rattle.reads.specs.Answers.{way_of, number_of, along_of, of_master, of_detail, asked_record, EmptyAbove, EmptyDown}
-
--- ---- the get modes
-module _ (mode kind : ℕ) where
-  pub way_current : mode ≡ 1 → Numbered Current ≡ way_of mode kind
-  unfolding way_of
-  way_current e = rw e
-
-  pub way_above : mode ≡ 2 → Numbered Above ≡ way_of mode kind
-  unfolding way_of
-  way_above e = rw e
-
-  pub way_below : mode ≡ 3 → Numbered Below ≡ way_of mode kind
-  unfolding way_of
-  way_below e = rw e
-
-  pub way_given : mode ≡ 4 → Numbered Given ≡ way_of mode kind
-  unfolding way_of
-  way_given e = rw e
-
-  pub way_forward : mode ≡ 5 → kind ≡ 3 → Chained Forward ≡ way_of mode kind
-  unfolding way_of
-  way_forward e k = rw (e, k)
-
-  pub way_no_forward : mode ≡ 5 → (kind ≡ 3 → ⊥) → NoMode ≡ way_of mode kind
-  unfolding way_of
-  way_no_forward e k = rw (e, ne_eqb kind 3 k)
-
-  pub way_backward : mode ≡ 6 → kind ≡ 3 → Chained Backward ≡ way_of mode kind
-  unfolding way_of
-  way_backward e k = rw (e, k)
-
-  pub way_no_backward : mode ≡ 6 → (kind ≡ 3 → ⊥) → NoMode ≡ way_of mode kind
-  unfolding way_of
-  way_no_backward e k = rw (e, ne_eqb kind 3 k)
-
-  pub way_no_key : mode ≡ 7 → kind ≡ 3 → NoMode ≡ way_of mode kind
-  unfolding way_of
-  way_no_key e k = rw (e, k)
-
-  pub way_key : mode ≡ 7 → (kind ≡ 3 → ⊥) → Keyed ≡ way_of mode kind
-  unfolding way_of
-  way_key e k = rw (e, ne_eqb kind 3 k)
-
-  pub way_none :
-      (mode ≡ 1 → ⊥) → (mode ≡ 2 → ⊥) → (mode ≡ 3 → ⊥) → (mode ≡ 4 → ⊥) → (mode ≡ 5 → ⊥) → (mode ≡ 6 → ⊥) → (mode ≡ 7 → ⊥) → NoMode ≡ way_of mode kind
-  unfolding way_of
-  way_none a b c d e f g = rw (ne_eqb mode 1 a, ne_eqb mode 2 b, ne_eqb mode 3 c, ne_eqb mode 4 d, ne_eqb mode 5 e, ne_eqb mode 6 f, ne_eqb mode 7 g)
-
-pub reading_master : (m : Master) (heads : List ℕ) (mode : ℕ) → reading (a_master m heads) mode ≡ of_master m (way_of mode 1)
-unfolding reading readings of_master number_of way_of
-reading_master m heads zero = refl
-reading_master m heads (suc zero) = refl
-reading_master m heads (suc (suc zero)) = refl
-reading_master m heads (suc (suc (suc zero))) = refl
-reading_master m heads (suc (suc (suc (suc zero)))) = refl
-reading_master m heads (suc (suc (suc (suc (suc zero))))) = refl
-reading_master m heads (suc (suc (suc (suc (suc (suc zero)))))) = refl
-reading_master m heads (suc (suc (suc (suc (suc (suc (suc zero))))))) = refl
-reading_master m heads (suc (suc (suc (suc (suc (suc (suc (suc n)))))))) = ap (of_master m) (way_none (suc (suc (suc (suc (suc (suc (suc (suc n)))))))) 1 (λ e. omega arith) (λ e. omega arith) (λ e. omega arith) (λ e. omega arith) (λ e. omega arith) (λ e. omega arith) (λ e. omega arith))
-
-pub reading_detail : (d : Detail) (mode : ℕ) → reading (a_detail d) mode ≡ of_detail (way_of mode 3)
-unfolding reading readings of_detail number_of along_of way_of
-reading_detail d zero = refl
-reading_detail d (suc zero) = refl
-reading_detail d (suc (suc zero)) = refl
-reading_detail d (suc (suc (suc zero))) = refl
-reading_detail d (suc (suc (suc (suc zero)))) = refl
-reading_detail d (suc (suc (suc (suc (suc zero))))) = refl
-reading_detail d (suc (suc (suc (suc (suc (suc zero)))))) = refl
-reading_detail d (suc (suc (suc (suc (suc (suc (suc zero))))))) = refl
-reading_detail d (suc (suc (suc (suc (suc (suc (suc (suc n)))))))) = ap of_detail (way_none (suc (suc (suc (suc (suc (suc (suc (suc n)))))))) 3 (λ e. omega arith) (λ e. omega arith) (λ e. omega arith) (λ e. omega arith) (λ e. omega arith) (λ e. omega arith) (λ e. omega arith))
+use Rattle.area.specs.AreaLaws.{LinksFit, links_fit, synonyms_fit}
+use Rattle.layout.specs.Views.{Shaped, Pathed}
+use Rattle.layout.specs.Known.{known_by}
+use Rattle.layout.specs.declared.sets.Root.{Root}
+use Rattle.layout.specs.declared.sets.MasterSet.{MasterSet}
+use Rattle.layout.specs.declared.sets.DetailSet.{DetailSet}
+use Rattle.named.specs.declared.Named.{Named}
+use Rattle.named.specs.declared.Named.TheVariants.{Master, Detail}
+use Rattle.named.specs.Named.{view_out, root_out, number_out, set_named, cursor_named}
+use Rattle.named.specs.NamedLaws.{ends_unnamed, goes_named, ends_unchosen, goes_chosen}
+use Rattle.reads.specs.Answers.{mode_read, EmptyAbove, EmptyDown}
 
 -- ---- one record
 module _ (r : ℕ) (why : Refusal) where
-  pub nonzero_none : r ≡ 0 → refuse why ≡ nonzero r why
+  nonzero_none : r ≡ 0 → nonzero r why ≡ refuse why
   unfolding nonzero
-  nonzero_none z = sym (taken _ _ (eq-eqb r 0 z) refl)
+  nonzero_none z = taken _ _ (eq-eqb r 0 z) refl
 
-  pub nonzero_some : (r ≡ 0 → ⊥) → accept r ≡ nonzero r why
+  nonzero_some : (r ≡ 0 → ⊥) → nonzero r why ≡ accept r
   unfolding nonzero
-  nonzero_some z = sym (other _ _ (ne_eqb r 0 z) refl)
+  nonzero_some z = other _ _ (ne_eqb r 0 z) refl
 
+-- ---- the searches up and down
 module _ (s : Shape) (a : List ℕ) where
   above_turn : (n m r : ℕ) → n ≡ suc m → (b : Bool) → b ≡ live s a (r + 1) → live_above s a n r ≡ cond b (r + 1) (live_above s a m (r + 1))
   unfolding live_above
@@ -140,9 +66,6 @@ module _ (s : Shape) (a : List ℕ) where
       let u : false ≡ live s a (r + k + 1) = sym (ap (live s a) d ∙ l k (omega arith)) in
       above_run k r (omega arith) (λ j q. l j (omega arith)) ∙ above_turn (s.cap - (r + k)) (s.cap - (r + k + 1)) (r + k) (omega arith) false u
       ∙ ap (λ x. live_above s a (s.cap - x) x) (omega arith)
-
-  pub above_start : (from : ℕ) → live_above s a (s.cap - from) from ≡ live_above s a (s.cap - from) from
-  above_start from = refl
 
   module _ (from r : ℕ) (e : live_above s a (s.cap - from) from ≡ live_above s a (s.cap - r) r) where
     pub above_end : s.cap ≤ r → 0 ≡ live_above s a (s.cap - from) from
@@ -194,232 +117,162 @@ module _ (s : Shape) (a : List ℕ) where
       pub down_pass : b ≡ false → live_down s a from ≡ live_down s a (r - 1)
       down_pass t = e ∙ down_turn r (r - 1) (omega arith) b l ∙ ap (λ x. cond x r (live_down s a (r - 1))) t
 
-  module _ (current : ℕ) where
-    pub below_none : current ≡ 0 → refuse NoneBelow ≡ nonzero (live_down s a (current - 1)) NoneBelow
-    unfolding live_down nonzero
-    below_none z = rw z
+-- ---- find
+module _ (root : List ℕ) (s : ℕ) (a : List ℕ) (item : ℕ) (key : List ℕ) where
+  pub find_unsearched : search_path root s item ≡ 0 → refuse NotSearched ≡ find_on root s (detail_of root s) a item key
+  unfolding find_on
+  find_unsearched z = sym (stops _ (nonzero_none _ _ z))
 
-    pub below_some : (d : ℕ) (o : OutcomeOf ℕ) → d ≡ live_down s a (current - 1) → o ≡ nonzero d NoneBelow → o ≡ nonzero (live_down s a (current - 1)) NoneBelow
-    below_some d o e q = rw (← e) q
+  module _ (p : ℕ) (e : p ≡ search_path root s item) (l : 1 ≤ p) where
+    found : nonzero (search_path root s item) NotSearched ≡ accept p
+    found = rw (← e) (nonzero_some p NotSearched (λ z. omega arith))
 
-  module _ (r : ℕ) where
-    pub given_zero : r ≡ 0 → refuse RecordZero ≡ given_record s a r
-    unfolding given_record
-    given_zero z = sym (stops _ (fails RecordZero (le-ltb 0 r (omega arith))))
+    pub find_long : (n : ℕ) → n ≡ item_length root item → (length key ≡ n → ⊥) → refuse WrongLength ≡ find_on root s (detail_of root s) a item key
+    unfolding find_on
+    find_long n q h =
+        let f : eqb (length key) (item_length root item) ≡ false = rw (← q) (ne_eqb (length key) n h) in
+        sym (goes _ found (stops _ (fails WrongLength f)))
 
-    module _ (z : r ≡ 0 → ⊥) where
-      pub given_past : s.cap < r → refuse PastCapacity ≡ given_record s a r
-      unfolding given_record
-      given_past h = sym (goes _ (passes RecordZero (lt-ltb 0 r (omega arith))) (stops _ (fails PastCapacity (lt-leb r s.cap h))))
+    pub find_there :
+        (n : ℕ) (d : Shape) (t : Path) (o : Outcome Done) → n ≡ item_length root item → length key ≡ n → Shaped root s d → Pathed root s p t →
+        o ≡ find_chain d t p a key → o ≡ find_on root s (detail_of root s) a item key
+    unfolding find_on detail_of
+    find_there n d t o q h ds ps e₁ =
+        let f : eqb (length key) (item_length root item) ≡ true = rw (← q) (eq-eqb (length key) n h) in
+        sym (goes _ found (goes _ (passes WrongLength f) (sym (rw (ds.is, ps.is) at e₁))))
 
-      module _ (h : r ≤ s.cap) (b : Bool) (l : b ≡ live s a r) where
-        pub given_live : b ≡ true → accept r ≡ given_record s a r
-        unfolding given_record
-        given_live t =
-            sym (goes _ (passes RecordZero (lt-ltb 0 r (omega arith))) (goes _ (passes PastCapacity (le-leb r s.cap h)) (goes _ (passes NoRecord (sym l ∙ t)) refl)))
+-- ---- the get modes
+one : (v : View) → reading v 1 ≡ by_number current
+unfolding reading readings
+one (a_master m heads) = refl
+one (a_detail d) = refl
 
-        pub given_unused : b ≡ false → refuse NoRecord ≡ given_record s a r
-        unfolding given_record
-        given_unused t =
-            sym (goes _ (passes RecordZero (lt-ltb 0 r (omega arith))) (goes _ (passes PastCapacity (le-leb r s.cap h)) (stops _ (fails NoRecord (sym l ∙ t)))))
+two : (v : View) → reading v 2 ≡ by_number above
+unfolding reading readings
+two (a_master m heads) = refl
+two (a_detail d) = refl
 
-    module _ (none : Refusal) where
-      pub saved_zero : r ≡ 0 → refuse none ≡ saved_record s a r none
-      unfolding saved_record
-      saved_zero z = sym (stops _ (sym (nonzero_none r none z)))
+three : (v : View) → reading v 3 ≡ by_number below
+unfolding reading readings
+three (a_master m heads) = refl
+three (a_detail d) = refl
 
-      module _ (z : r ≡ 0 → ⊥) where
-        pub saved_past : s.cap < r → refuse Broken ≡ saved_record s a r none
-        unfolding saved_record
-        saved_past h = sym (goes _ (sym (nonzero_some r none z)) (stops _ (read_bad s.cap r h)))
+four : (v : View) → reading v 4 ≡ by_number given
+unfolding reading readings
+four (a_master m heads) = refl
+four (a_detail d) = refl
 
-        module _ (h : r ≤ s.cap) (b : Bool) (l : b ≡ live s a r) where
-          pub saved_live : b ≡ true → accept r ≡ saved_record s a r none
-          unfolding saved_record
-          saved_live t = sym (goes _ (sym (nonzero_some r none z)) (goes _ (read_good s.cap r h) (goes _ (follow_live s a r b z l t) refl)))
+past_seven : (v : View) (n : ℕ) → 8 ≤ n → reading v n ≡ no_mode
+unfolding reading readings
+past_seven (a_master m heads) n h = get_or_past (readings (a_master m heads)) n no_mode h
+past_seven (a_detail d) n h =
+    let l : 7 ≤ n = omega arith in get_or_past (readings (a_detail d)) n no_mode l
 
-          pub saved_unused : b ≡ false → refuse Broken ≡ saved_record s a r none
-          unfolding saved_record
-          saved_unused t = sym (goes _ (sym (nonzero_some r none z)) (goes _ (read_good s.cap r h) (stops _ (follow_unused s a r b z l t))))
+none : (v : View) → reading v 0 ≡ no_mode
+unfolding reading readings
+none (a_master m heads) = refl
+none (a_detail d) = refl
 
-module _ (m : Master) (a key : List ℕ) (x : Num) (e : num_out x ≡ find_key m a key) where
-  pub keyed_lost : x ≡ Lost → refuse Broken ≡ keyed_record m a key
-  unfolding keyed_record
-  keyed_lost t = sym (stops _ (num_broken x _ e t))
+module _ (v : View) (mode : ℕ) where
+  mode_is : (n : ℕ) (how : Reading) → mode ≡ n → reading v n ≡ how → mode_good how ≡ true → accept how ≡ mode_read v mode
+  unfolding mode_read
+  mode_is n how e r g = rw (e, r) (sym (goes _ (passes NoMode g) refl))
 
-  pub keyed_found : (r : ℕ) (o : OutcomeOf ℕ) → x ≡ Good r → o ≡ nonzero r NoRecord → o ≡ keyed_record m a key
-  unfolding keyed_record
-  keyed_found r o t q = sym (goes _ (num_good x _ r e t) (sym q))
+  mode_none : (n : ℕ) → mode ≡ n → reading v n ≡ no_mode → refuse NoMode ≡ mode_read v mode
+  unfolding mode_read mode_good
+  mode_none n e r = rw (e, r) refl
 
-module _ (s : Shape) (a : List ℕ) (c : Cursor) (o : OutcomeOf ℕ) where
-  module _ (r : ℕ) (w : ByNumber) where
-    pub number_current : w ≡ Current → o ≡ current_record s a c → o ≡ numbered_record (number_of w) s a c r
-    unfolding numbered_record number_of
-    number_current t q = rw t q
+  pub mode_current : mode ≡ 1 → accept (by_number current) ≡ mode_read v mode
+  unfolding mode_good
+  mode_current e = mode_is 1 _ e (one v) refl
 
-    pub number_above : (d : ℕ) → w ≡ Above → d ≡ live_above s a (s.cap - c.current) c.current → o ≡ nonzero d NoneAbove → o ≡ numbered_record (number_of w) s a c r
-    unfolding numbered_record number_of
-    number_above d t e q = rw t (q ∙ ap (λ n. nonzero n NoneAbove) e)
+  pub mode_above : mode ≡ 2 → accept (by_number above) ≡ mode_read v mode
+  unfolding mode_good
+  mode_above e = mode_is 2 _ e (two v) refl
 
-    pub number_below : w ≡ Below → o ≡ nonzero (live_down s a (c.current - 1)) NoneBelow → o ≡ numbered_record (number_of w) s a c r
-    unfolding numbered_record number_of
-    number_below t q = rw t q
+  pub mode_below : mode ≡ 3 → accept (by_number below) ≡ mode_read v mode
+  unfolding mode_good
+  mode_below e = mode_is 3 _ e (three v) refl
 
-    pub number_given : w ≡ Given → o ≡ given_record s a r → o ≡ numbered_record (number_of w) s a c r
-    unfolding numbered_record number_of
-    number_given t q = rw t q
+  pub mode_given : mode ≡ 4 → accept (by_number given) ≡ mode_read v mode
+  unfolding mode_good
+  mode_given e = mode_is 4 _ e (four v) refl
 
-  module _ (w : Along) where
-    pub along_forward : w ≡ Forward → o ≡ saved_record s a c.fore ChainEnd → o ≡ chained_record (along_of w) s a c
-    unfolding chained_record along_of
-    along_forward t q = rw t q
+  pub mode_other : ((mode ≡ 0 → ⊥) → 8 ≤ mode) → refuse NoMode ≡ mode_read v mode
+  mode_other h = dite (ℕ_discrete mode 0) (λ z. mode_none 0 z (none v)) (λ z. mode_none mode refl (past_seven v mode (h z)))
 
-    pub along_backward : w ≡ Backward → o ≡ saved_record s a c.back ChainStart → o ≡ chained_record (along_of w) s a c
-    unfolding chained_record along_of
-    along_backward t q = rw t q
+  module _ (d : DetailBy) (t : v ≡ a_detail d) where
+    pub mode_forward : mode ≡ 5 → accept (along forward) ≡ mode_read v mode
+    unfolding mode_good reading readings
+    mode_forward e = mode_is 5 _ e (rw t refl) refl
 
--- ---- the record that a get asks for
-module _ (m : Master) (how : Reading) (a : List ℕ) (c : Cursor) (r : ℕ) (key : List ℕ) (room : ℕ) where
-  pub master_no_mode : how ≡ NoMode → refuse NotAMode ≡ asked_record (of_master m how) m.shape a c r key room
-  unfolding asked_record of_master mode_good
-  master_no_mode t = rw t
+    pub mode_backward : mode ≡ 6 → accept (along backward) ≡ mode_read v mode
+    unfolding mode_good reading readings
+    mode_backward e = mode_is 6 _ e (rw t refl) refl
 
-  pub master_chained : (way : Along) → how ≡ Chained way → refuse NotAMode ≡ asked_record (of_master m how) m.shape a c r key room
-  unfolding asked_record of_master mode_good
-  master_chained way t = rw t
+    pub mode_no_key : mode ≡ 7 → refuse NoMode ≡ mode_read v mode
+    unfolding reading readings
+    mode_no_key e = mode_none 7 e (rw t refl)
 
-  module _ (t : how ≡ Keyed) where
-    pub master_long : (length key ≡ m.key.size → ⊥) → refuse WrongLength ≡ asked_record (of_master m how) m.shape a c r key room
-    unfolding asked_record of_master mode_good value_good
-    master_long n = rw t (sym (stops _ (fails WrongLength (ne_eqb (length key) m.key.size n))))
+  module _ (m : MasterBy) (heads : List ℕ) (t : v ≡ a_master m heads) where
+    pub mode_key : (m₁ : MasterBy) → m₁ ≡ m → mode ≡ 7 → accept (by_key m₁) ≡ mode_read v mode
+    unfolding mode_good reading readings
+    mode_key m₁ q e = rw q (mode_is 7 _ e (rw t refl) refl)
 
-    module _ (e : length key ≡ m.key.size) where
-      pub master_key_short : room < m.shape.entry → refuse ShortBuffer ≡ asked_record (of_master m how) m.shape a c r key room
-      unfolding asked_record of_master mode_good value_good path_chosen
-      master_key_short h =
-          rw t
-          (sym (goes _ (passes WrongLength (eq-eqb (length key) m.key.size e)) (stops _ (fails ShortBuffer (lt-leb m.shape.entry room h)))))
+    pub mode_no_forward : mode ≡ 5 → refuse NoMode ≡ mode_read v mode
+    unfolding reading readings
+    mode_no_forward e = mode_none 5 e (rw t refl)
 
-      pub master_keyed : (o : OutcomeOf ℕ) → m.shape.entry ≤ room → o ≡ keyed_record m a key → o ≡ asked_record (of_master m how) m.shape a c r key room
-      unfolding asked_record of_master mode_good value_good path_chosen record_for
-      master_keyed o h q =
-          rw t
-          (sym (goes _ (passes WrongLength (eq-eqb (length key) m.key.size e)) (goes _ (passes ShortBuffer (le-leb m.shape.entry room h)) (sym q))))
+    pub mode_no_backward : mode ≡ 6 → refuse NoMode ≡ mode_read v mode
+    unfolding reading readings
+    mode_no_backward e = mode_none 6 e (rw t refl)
 
-  module _ (w : ByNumber) (t : how ≡ Numbered w) where
-    pub master_short : room < m.shape.entry → refuse ShortBuffer ≡ asked_record (of_master m how) m.shape a c r key room
-    unfolding asked_record of_master mode_good value_good path_chosen
-    master_short h = rw t (sym (stops _ (fails ShortBuffer (lt-leb m.shape.entry room h))))
+-- ---- what a get tells of its record
+pub links_seen : (s : Shape) (a : List ℕ) (r at : ℕ) (l : Links) → accept l ≡ read_links s a r at → l ≡ peek_links s a r at
+unfolding peek_links
+links_seen s a r at l e = let f : LinksFit s a r at l = links_fit s a r at l (sym e) in rw (← f.back_is, ← f.fore_is) refl
 
-    pub master_numbered :
-        (o : OutcomeOf ℕ) → m.shape.entry ≤ room → o ≡ numbered_record (number_of w) m.shape a c r →
-        o ≡ asked_record (of_master m how) m.shape a c r key room
-    unfolding asked_record of_master mode_good value_good path_chosen record_for
-    master_numbered o h q = rw t (sym (goes _ (passes ShortBuffer (le-leb m.shape.entry room h)) (sym q)))
+pub count_seen : (s : Shape) (a : List ℕ) (r : ℕ) (y : Head) → accept y ≡ synonyms s a r → y.count ≡ synonym_count s a r
+unfolding synonym_count
+count_seen s a r y e = (synonyms_fit s a r y (sym e)).count_is
 
-module _ (s : Shape) (how : Reading) (a : List ℕ) (c : Cursor) (r room : ℕ) where
-  pub line_no_mode : how ≡ NoMode → refuse NotAMode ≡ asked_record (of_detail how) s a c r [] room
-  unfolding asked_record of_detail mode_good
-  line_no_mode t = rw t
+-- ---- the calls, by what was asked first
+module _ (root a : List ℕ) (cs : List Cursor) (s : ℕ) (r : Root) (e : r.words.now ≡ root) (k : accept tt ≡ known_by root (length a)) where
+  module _ (item : ℕ) (key : List ℕ) where
+    pub find_unnamed : (why : Refusal) → refuse why ≡ set_named r.words.now s → refuse why ≡ find_steps root a cs s item key
+    unfolding find_steps
+    find_unnamed why n = ends_unnamed root a s r.words.now e k _ why n
 
-  pub line_keyed : how ≡ Keyed → refuse NotAMode ≡ asked_record (of_detail how) s a c r [] room
-  unfolding asked_record of_detail mode_good
-  line_keyed t = rw t
+    module _ (named : Named) (n : accept (view_out named) ≡ set_named r.words.now s) where
+      pub find_master : (m : MasterSet) → named ≡ Master m → refuse NoSet ≡ find_steps root a cs s item key
+      unfolding find_steps the_detail
+      find_master m t = goes_named root a s r.words.now e k _ _ _ (rw t at n) refl
 
-  module _ (w : Along) (t : how ≡ Chained w) where
-    pub line_no_path : c.path ≡ 0 → refuse NoPath ≡ asked_record (of_detail how) s a c r [] room
-    unfolding asked_record of_detail mode_good value_good path_chosen
-    line_no_path z = rw t (sym (stops _ (fails NoPath (le-ltb 0 c.path (omega arith)))))
+      module _ (b : root_out named ≡ r) (i : number_out named ≡ s) (d : DetailSet) (t : named ≡ Detail d) where
+        pub find_misfit :
+            (why : Refusal) → refuse why ≡ named_cursor (view_out named) cs (number_out named) → refuse why ≡ find_steps root a cs s item key
+        unfolding find_steps the_detail
+        find_misfit why q = goes_named root a s r.words.now e k _ _ _ (rw t at n) (sym (stops _ (sym (rw (i, t) at q))))
 
-    module _ (z : c.path ≡ 0 → ⊥) where
-      pub line_chain_short : room < s.entry → refuse ShortBuffer ≡ asked_record (of_detail how) s a c r [] room
-      unfolding asked_record of_detail mode_good value_good path_chosen
-      line_chain_short h = rw t (sym (goes _ (passes NoPath (lt-ltb 0 c.path (omega arith))) (stops _ (fails ShortBuffer (lt-leb s.entry room h)))))
+        pub find_goes :
+            (c : Cursor) (o : Outcome Done) → accept c ≡ named_cursor (view_out named) cs (number_out named) →
+            o ≡ find_on d.root.now.words.now d.number (detail_of d.root.now.words.now d.number) a item key → o ≡ find_steps root a cs s item key
+        unfolding find_steps the_detail
+        find_goes c o q f =
+            let i₁ : d.number ≡ s = rw t at i in
+            let b₁ : d.root.now.words.now ≡ root = ap (λ (x : Root). x.words.now) (rw t at b) ∙ e in
+            let n₁ : accept (a_detail (detail_of root s)) ≡ set_named r.words.now s = rw (i₁, b₁) at (rw t at n) in
+            let q₁ : accept c ≡ named_cursor (a_detail (detail_of root s)) cs s = rw (i₁, b₁) at (rw (i, t) at q) in
+            let f₁ : o ≡ find_on root s (detail_of root s) a item key = rw (i₁, b₁) at f in
+            goes_named root a s r.words.now e k _ _ _ n₁ (sym (goes _ (sym q₁) (sym f₁)))
 
-      pub line_chained : (o : OutcomeOf ℕ) → s.entry ≤ room → o ≡ chained_record (along_of w) s a c → o ≡ asked_record (of_detail how) s a c r [] room
-      unfolding asked_record of_detail mode_good value_good path_chosen record_for
-      line_chained o h q =
-          rw t (sym (goes _ (passes NoPath (lt-ltb 0 c.path (omega arith))) (goes _ (passes ShortBuffer (le-leb s.entry room h)) (sym q))))
+  module _ (mode number : ℕ) (key : List ℕ) (room : ℕ) where
+    pub get_unchosen : (why : Refusal) → refuse why ≡ cursor_named r.words.now cs s → refuse why ≡ get_steps root a cs s mode number key room
+    unfolding get_steps
+    get_unchosen why n = ends_unchosen root a s r.words.now e k cs (λ v c. get_on v a c mode number key room) why n
 
-  module _ (w : ByNumber) (t : how ≡ Numbered w) where
-    pub line_short : room < s.entry → refuse ShortBuffer ≡ asked_record (of_detail how) s a c r [] room
-    unfolding asked_record of_detail mode_good value_good path_chosen
-    line_short h = rw t (sym (stops _ (fails ShortBuffer (lt-leb s.entry room h))))
-
-    pub line_numbered : (o : OutcomeOf ℕ) → s.entry ≤ room → o ≡ numbered_record (number_of w) s a c r → o ≡ asked_record (of_detail how) s a c r [] room
-    unfolding asked_record of_detail mode_good value_good path_chosen record_for
-    line_numbered o h q = rw t (sym (goes _ (passes ShortBuffer (le-leb s.entry room h)) (sym q)))
-
--- ---- it is a record's number, not 0
--- whatever a step gives
-after_any : {A : Type 0} (o : OutcomeOf A) (f : A → OutcomeOf ℕ) → ((y : A) → Then (λ k. 1 ≤ k) (f y)) → Then (λ k. 1 ≤ k) (o >>= f)
-after_any (accept x) f h = h x
-after_any (refuse why) f h = tt
-
-require_then : (b : Bool) (why : Refusal) → Then (λ _. b ≡ true) (require b why)
-require_then true why = refl
-require_then false why = tt
-
-nonzero_then : (r : ℕ) (why : Refusal) → Then (λ y. (y ≡ r) × (1 ≤ r)) (nonzero r why)
-unfolding nonzero
-nonzero_then r why = go (eqb r 0) refl
-  where
-    go : (b : Bool) → eqb r 0 ≡ b → Then (λ y. (y ≡ r) × (1 ≤ r)) (elim b [ true ↦ refuse why | false ↦ accept r ])
-    go true e = tt
-    go false e = let n : r ≡ 0 → ⊥ = eqb-false r 0 e in (refl, omega arith)
-
-module _ (s : Shape) (a : List ℕ) where
-  nonzero_low : (r : ℕ) (why : Refusal) → Then (λ k. 1 ≤ k) (nonzero r why)
-  nonzero_low r why = go (nonzero r why) (nonzero_then r why)
-    where
-      go : (o : OutcomeOf ℕ) → Then (λ y. (y ≡ r) × (1 ≤ r)) o → Then (λ k. 1 ≤ k) o
-      go (accept y) t = rw t.0 t.1
-      go (refuse w) t = tt
-
-  current_low : (c : Cursor) → Then (λ k. 1 ≤ k) (current_record s a c)
-  unfolding current_record
-  current_low c =
-      then_bind _ (λ k. 1 ≤ k) (require (ltb 0 c.current) NoRecord) _ (require_then (ltb 0 c.current) NoRecord) (λ _ t.
-      then_bind _ (λ k. 1 ≤ k) (require (live s a c.current) NoRecord) _ (require_then (live s a c.current) NoRecord) (λ _ u.
-      let p : 0 < c.current = ltb-true 0 c.current t in omega arith))
-
-  given_low : (r : ℕ) → Then (λ k. 1 ≤ k) (given_record s a r)
-  unfolding given_record
-  given_low r =
-      then_bind _ (λ k. 1 ≤ k) (require (ltb 0 r) RecordZero) _ (require_then (ltb 0 r) RecordZero) (λ _ t.
-      after_any (require (leb r s.cap) PastCapacity) _ (λ _.
-      after_any (require (live s a r) NoRecord) _ (λ _.
-      let p : 0 < r = ltb-true 0 r t in omega arith)))
-
-  saved_low : (r : ℕ) (none : Refusal) → Then (λ k. 1 ≤ k) (saved_record s a r none)
-  unfolding saved_record
-  saved_low r none =
-      then_bind _ (λ k. 1 ≤ k) (nonzero r none) _ (nonzero_then r none) (λ _ t.
-      after_any (read s.cap r) _ (λ _.
-      after_any (follow s a r) _ (λ _. t.1)))
-
-  keyed_low : (m : Master) (key : List ℕ) → Then (λ k. 1 ≤ k) (keyed_record m a key)
-  unfolding keyed_record
-  keyed_low m key = after_any (find_key m a key) _ (λ y. nonzero_low y NoRecord)
-
-  record_low : (how : ReadBy) (c : Cursor) (r : ℕ) (key : List ℕ) → Then (λ k. 1 ≤ k) (record_for how s a c r key)
-  unfolding record_for numbered_record chained_record
-  record_low (by_number current) c r key = current_low c
-  record_low (by_number above) c r key = nonzero_low _ NoneAbove
-  record_low (by_number below) c r key = nonzero_low _ NoneBelow
-  record_low (by_number given) c r key = given_low r
-  record_low (along forward) c r key = saved_low c.fore ChainEnd
-  record_low (along backward) c r key = saved_low c.back ChainStart
-  record_low (by_key m) c r key = keyed_low m key
-  record_low no_mode c r key = tt
-
-  asked_then : (how : ReadBy) (c : Cursor) (r : ℕ) (key : List ℕ) (room : ℕ) → Then (λ k. 1 ≤ k) (asked_record how s a c r key room)
-  unfolding asked_record
-  asked_then how c r key room =
-      after_any (require (mode_good how) NotAMode) _ (λ _.
-      after_any (require (value_good how key) WrongLength) _ (λ _.
-      after_any (require (path_chosen how c) NoPath) _ (λ _.
-      after_any (require (leb s.entry room) ShortBuffer) _ (λ _. record_low how c r key))))
-
-  pub asked_low : (x : Found) (how : ReadBy) (c : Cursor) (r : ℕ) (key : List ℕ) (room k : ℕ) → found_out x ≡ asked_record how s a c r key room → x ≡ At k → 1 ≤ k
-  asked_low x how c r key room k e t = then_told (λ k. 1 ≤ k) (asked_record how s a c r key room) k (asked_then how c r key room) (found_at x _ k e t)
+    pub get_goes :
+        (v : View) (c : Cursor) (o : Outcome Done) → accept (v, c) ≡ cursor_named r.words.now cs s → o ≡ get_on v a c mode number key room →
+        o ≡ get_steps root a cs s mode number key room
+    unfolding get_steps
+    get_goes v c o n q = goes_chosen root a s r.words.now e k cs (λ v c. get_on v a c mode number key room) v c o n q

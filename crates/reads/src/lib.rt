@@ -2,37 +2,28 @@
 // and the number that a get tells.
 #![tactic(auto)]
 
-ghost use Rattle.std.specs.Prelude.{◌≡◌, true, [], ◌-◌, ◌≤◌, get_or};
-ghost use Rattle.spec.specs.declared.Refusal.TheVariants.{NoneBelow};
-ghost use Rattle.spec.specs.Root.{sets, kind, path_count};
-ghost use Rattle.spec.specs.Layout.{a_master, master_of as master_in, heads_of as heads_in, shape_of as shape_in, path_of as path_in, detail_of as detail_in};
-ghost use Rattle.spec.specs.Cursor.{fresh, nonzero as not_zero, live_above as above_live, live_down as down_live, given_record as record_given, saved_record as record_saved, keyed_record as record_keyed, numbered_record as record_numbered, chained_record as record_chained};
-ghost use Rattle.spec.specs.Detail.{none_passed};
-ghost use Rattle.spec.specs.Calls.{find_chain as chain_found, find_on as on_found, find_steps as steps_find, get_on as got_on, get_steps as steps_get};
-ghost use Rattle.root.specs.Plan.{Planned};
-ghost use Rattle.area.specs.Answers.{links_out};
-ghost use Rattle.session.specs.Answers.{done_out, Settable};
-ghost use Rattle.named.specs.Answers.{found_out, fits};
-ghost use Rattle.reads.specs.Answers.{number_of, along_of, way_of, of_master, of_detail, asked_record, whole_links, line_got, got_out, Readable, EmptyAbove, EmptyDown};
+ghost use Rattle.std.specs.Prelude.{◌≡◌, true, [], ◌-◌, ◌≤◌, IfOk, IfErr};
+ghost use Rattle.spec.specs.Cursor.{nonzero, live_above, live_down, given_record, saved_record, keyed_record, numbered_record, chained_record, record_for, value_good, path_chosen, links_readable, saved_links, seen, readable};
+ghost use Rattle.spec.specs.Outcome.{accept, refuse};
+ghost use Rattle.spec.specs.Layout.{detail_of};
+ghost use Rattle.spec.specs.Calls.{find_chain, find_on, find_steps, get_on, get_steps};
+ghost use Rattle.session.specs.Answers.{done_out};
+ghost use Rattle.named.specs.Named.{view_out};
+ghost use Rattle.reads.specs.Answers.{number_of, along_of, read_by, mode_out, mode_read, got_out, EmptyAbove, EmptyDown};
 
-use area::{HeadRead, LinksRead, live, read_head, read_links, synonyms, word_alike};
-use find::{Num, find_key};
-use layout::{master_of, path_of, shape_of};
-use named::{Found, Naming, current_record, cursor_fits, name_cursor, name_set};
-use root::{Plan, capacity, item_length, path_count, search_path};
-use session::{Good, Outcome, Session, cursor_of, no_links};
+mod got;
+
+use area::{follow, live, read_head, read_links, synonyms, word_alike};
+use find::find_key;
+pub use got::Got;
+use layout::{DetailSet, MasterSet, known};
+use named::{Named, current_record, name_cursor, name_set};
+use session::{Good, Session};
 use spec::{Cursor, Links, Master, Path, Refusal, Shape};
-
-// A get's outcome, and the shape of the set that it reads.
-#[derive(Clone, Copy)]
-pub struct Got {
-    pub outcome: Outcome,
-    pub shape: Shape,
-}
 
 // What a get mode reads: a record by its number, the line ahead or behind on the current path, an entry by its key.
 #[derive(Clone, Copy)]
-pub enum ByNumber {
+enum ByNumber {
     Current,
     Above,
     Below,
@@ -40,158 +31,119 @@ pub enum ByNumber {
 }
 
 #[derive(Clone, Copy)]
-pub enum Along {
+enum Along {
     Forward,
     Backward,
 }
 
 #[derive(Clone, Copy)]
-pub enum Reading {
+enum Reading<'a> {
     Numbered(ByNumber),
     Chained(Along),
-    Keyed,
-    NoMode,
+    Keyed(&'a MasterSet<'a>),
+}
+
+// What a get asks for: its mode, the record of mode 4, the key of mode 7, and how many words the buffer has.
+#[derive(Clone, Copy)]
+struct Asked<'a> {
+    mode: u16,
+    number: u32,
+    value: &'a [u16],
+    room: usize,
+}
+
+// The links of a record that are saved, and the number in status words 5 and 6.
+#[derive(Clone, Copy)]
+struct Told {
+    links: Links,
+    number: u32,
 }
 
 // ---- find
 
 // "Find sets the path, record 0, back = last, forward = first; an empty chain of a present master succeeds with count 0"
-fn find_chain(area: &[u16], d: Shape, p: Path, i: u16, key: &[u16]) -> Outcome
+#[tactic(auto, unfolding(spec::specs::Calls::find_chain, spec::specs::Detail::head_at), using(spec::specs::Follow::goes, spec::specs::Follow::stops))]
+fn find_chain(area: &[u16], d: Shape, p: Path, i: u16, key: &[u16]) -> Result<Good, Refusal>
     requires { (1 ≤ p.to.shape.cap) × (p.head ≤ 65000) }
-    ensures { done_out result none_passed area.now [] ≡ chain_found d p i area.now key.now }
+    ensures { done_out result area.now [] ≡ find_chain d p i area.now key.now }
 {
-    match find_key(area, p.to, key) {
-        Num::Broken => Outcome::Refused(Refusal::Broken),
-        Num::Good(k) => {
-            if k == 0 {
-                return Outcome::Refused(Refusal::NoRecord);
-            }
-            match read_head(area, d.cap, p.to.shape, k, p.head) {
-                HeadRead::Broken => Outcome::Refused(Refusal::Broken),
-                HeadRead::Whole(h) => Outcome::Done(Good {
-                    size: 0,
-                    at: 0,
-                    number: h.count as u32,
-                    links: Links {
-                        back: h.back,
-                        fore: h.fore,
-                    },
-                    cursor: Cursor::new().at_chain(i as u32, h),
-                }),
-            }
-        }
-    }
-}
-
-// On path p of a detail.
-fn find_path(root: &[u16], plan: Plan, area: &[u16], set: u16, p: u16, value: &[u16]) -> Outcome
-    requires planned { Planned root.now plan }
-    requires le_set { (1 ≤ set) × (set ≤ sets root.now) }
-    requires le_p { (1 ≤ p) × (p ≤ path_count root.now set) }
-    ensures { done_out result none_passed area.now [] ≡ chain_found (shape_in root.now set) (path_in root.now set p) p area.now value.now }
-{
-    let d = shape_of(root, plan, set);
-    let t = path_of(root, plan, set, p);
-    find_chain(area, d, t, p, value)
+    let k = nonzero(find_key(area, p.to, key)?, Refusal::NoRecord)?;
+    let h = read_head(area, d.cap, p.to.shape, k, p.head)?;
+    Ok(Good {
+        size: 0,
+        at: 0,
+        number: h.count as u32,
+        links: Links {
+            back: h.back,
+            fore: h.fore,
+        },
+        cursor: Cursor::new().at_chain(i as u32, h),
+        passed: [0; 4],
+    })
 }
 
 // −52, −95, then the chain.
-fn find_item(root: &[u16], plan: Plan, area: &[u16], set: u16, item: u16, value: &[u16]) -> Outcome
-    requires planned { Planned root.now plan }
-    requires le_set { (1 ≤ set) × (set ≤ sets root.now) }
-    ensures { done_out result none_passed area.now [] ≡ on_found root.now set (detail_in root.now set) area.now item value.now }
+#[tactic(auto, using(crate::proofs::Laws::find_unsearched, crate::proofs::Laws::find_long, crate::proofs::Laws::find_there))]
+fn find_on(d: &DetailSet, area: &[u16], item: u16, value: &[u16]) -> Result<Good, Refusal>
+    ensures { done_out result area.now [] ≡ find_on d.now.root.now.words.now d.now.number (detail_of d.now.root.now.words.now d.now.number) area.now item value.now }
 {
-    let p = search_path(root, set, item);
-    if p == 0 {
-        return Outcome::Refused(Refusal::NotSearched);
+    let Some(p) = d.search_path(item) else {
+        return Err(Refusal::NotSearched);
+    };
+    if value.len() != root::item_length(d.root.words, item) as usize {
+        return Err(Refusal::WrongLength);
     }
-    if value.len() == (item_length(root, item) as usize) {
-        find_path(root, plan, area, set, p, value)
-    } else {
-        Outcome::Refused(Refusal::WrongLength)
-    }
+    find_chain(area, d.shape, d.path(p), p, value)
 }
 
-// −93 of a detail: its cursor.
-fn cursor_good(root: &[u16], session: Session, set: u16) -> bool
-    requires { (1 ≤ set) × (set ≤ 16) }
-    ensures { result ≡ fits root.now set (get_or session.cursors (set - 1) fresh) }
-{
-    let c = cursor_of(session, set);
-    cursor_fits(c, path_count(root, set), capacity(root, set))
-}
-
+// Find: −91, −92, −21, −93, then the chain.
+#[tactic(auto, unfolding(spec::specs::Calls::find_steps, spec::specs::Calls::the_detail), using(named::specs::NamedLaws::ends_unknown))]
 pub fn find_steps(
-    root: &[u16],
+    words: &[u16],
     area: &[u16],
-    session: Session,
+    session: &Session,
     set: u16,
     item: u16,
     value: &[u16],
-) -> Outcome
-    ensures is { done_out result none_passed area.now [] ≡ steps_find root.now area.now session.cursors set item value.now }
-    ensures set { Settable result set }
+) -> Result<Good, Refusal>
+    ensures is { done_out result area.now [] ≡ find_steps words.now area.now session.now.cursors set item value.now }
+    ensures set { IfOk result (λ _. (1 ≤ set) × (set ≤ 16)) }
 {
-    let b = name_set(root, area, set);
-    let plan = b.plan;
-    let n = b.naming;
-    match n {
-        Naming::Refused(why) => Outcome::Refused(why),
-        Naming::Master => Outcome::Refused(Refusal::NoSet),
-        Naming::Detail => {
-            if cursor_good(root, session, set) {
-                find_item(root, plan, area, set, item, value)
-            } else {
-                Outcome::Refused(Refusal::BadCursor)
-            }
-        }
-    }
+    let root = known(words, area.len())?;
+    let named = name_set(&root, set)?;
+    let Named::Detail(d) = &named else {
+        return Err(Refusal::NoSet);
+    };
+    named.cursor(session)?;
+    find_on(d, area, item, value)
 }
 
 // ---- get
 
-// "get mode not 1..7; 5, 6 on a master; 7 on a detail"
-fn reading_of(mode: u16, kind: u16) -> Reading
-    ensures { result ≡ way_of mode kind }
+// −31: "get mode not 1..7; 5, 6 on a master; 7 on a detail"
+#[tactic(auto, using(crate::proofs::Laws::mode_current, crate::proofs::Laws::mode_above, crate::proofs::Laws::mode_below, crate::proofs::Laws::mode_given, crate::proofs::Laws::mode_forward, crate::proofs::Laws::mode_backward, crate::proofs::Laws::mode_key))]
+fn reading_of<'a>(named: &'a Named<'a>, mode: u16) -> Result<Reading<'a>, Refusal>
+    ensures { mode_out result ≡ mode_read (view_out named.now) mode }
 {
-    match mode {
-        1 => Reading::Numbered(ByNumber::Current),
-        2 => Reading::Numbered(ByNumber::Above),
-        3 => Reading::Numbered(ByNumber::Below),
-        4 => Reading::Numbered(ByNumber::Given),
-        5 => {
-            if kind == 3 {
-                Reading::Chained(Along::Forward)
-            } else {
-                Reading::NoMode
-            }
-        }
-        6 => {
-            if kind == 3 {
-                Reading::Chained(Along::Backward)
-            } else {
-                Reading::NoMode
-            }
-        }
-        7 => {
-            if kind == 3 {
-                Reading::NoMode
-            } else {
-                Reading::Keyed
-            }
-        }
-        _ => Reading::NoMode,
+    match (mode, named) {
+        (1, _) => Ok(Reading::Numbered(ByNumber::Current)),
+        (2, _) => Ok(Reading::Numbered(ByNumber::Above)),
+        (3, _) => Ok(Reading::Numbered(ByNumber::Below)),
+        (4, _) => Ok(Reading::Numbered(ByNumber::Given)),
+        (5, Named::Detail(_)) => Ok(Reading::Chained(Along::Forward)),
+        (6, Named::Detail(_)) => Ok(Reading::Chained(Along::Backward)),
+        (7, Named::Master(m)) => Ok(Reading::Keyed(m)),
+        _ => Err(Refusal::NoMode),
     }
 }
 
-fn nonzero(r: u32, why: Refusal) -> Found
-    ensures { found_out result ≡ not_zero r why }
+// The record, where there is one.
+#[tactic(auto, unfolding(spec::specs::Cursor::nonzero))]
+fn nonzero(r: u32, why: Refusal) -> Result<u32, Refusal>
+    ensures is { result ≡ nonzero r why }
+    ensures found { IfOk result (λ k. (k ≡ r) × (1 ≤ k)) }
 {
-    if r == 0 {
-        Found::Refused(why)
-    } else {
-        Found::At(r)
-    }
+    if r == 0 { Err(why) } else { Ok(r) }
 }
 
 // Whether the 16 records above r are a word of the map, within the capacity and all unused.
@@ -199,15 +151,16 @@ fn empty_above(area: &[u16], s: Shape, r: u32) -> bool
     ensures { result ≡ true → EmptyAbove s area.now r }
 {
     if (s.cap as u64) < (r as u64) + 16 {
-        false
-    } else {
-        word_alike(area, s, r + 1, false)
+        return false;
     }
+    word_alike(area, s, r + 1, false)
 }
 
-// "lowest live above current"; 0 where there is none. An empty word of the map is passed at once.
+// "lowest live above current"; 0 where there is none. An empty word of the map is passed at once. (A while loop: its steps are of
+// 1 and of 16 records.)
+#[tactic(auto, using(crate::proofs::Laws::above_word, crate::proofs::Laws::above_found, crate::proofs::Laws::above_pass, crate::proofs::Laws::above_end))]
 fn live_above(area: &[u16], s: Shape, from: u32) -> u32
-    ensures { result ≡ above_live s area.now (s.cap - from) from }
+    ensures { result ≡ live_above s area.now (s.cap - from) from }
 {
     let mut r = from;
     while r < (s.cap as u32) {
@@ -224,19 +177,20 @@ fn live_above(area: &[u16], s: Shape, from: u32) -> u32
 }
 
 // Whether the 16 records down from r are a word of the map and all unused.
+#[tactic(auto, using(crate::proofs::Laws::empty_down))]
 fn empty_down(area: &[u16], s: Shape, r: u32) -> bool
     ensures { result ≡ true → EmptyDown s area.now r }
 {
     if r < 16 {
-        false
-    } else {
-        word_alike(area, s, r - 15, false)
+        return false;
     }
+    word_alike(area, s, r - 15, false)
 }
 
-// "highest live below current"; 0 where there is none. An empty word of the map is passed at once.
+// "highest live below current"; 0 where there is none. An empty word of the map is passed at once. (A while loop, as above.)
+#[tactic(auto, using(crate::proofs::Laws::down_word, crate::proofs::Laws::down_found, crate::proofs::Laws::down_pass, crate::proofs::Laws::down_end))]
 fn live_down(area: &[u16], s: Shape, from: u32) -> u32
-    ensures { result ≡ down_live s area.now from }
+    ensures { result ≡ live_down s area.now from }
 {
     let mut r = from;
     while r != 0 {
@@ -252,295 +206,208 @@ fn live_down(area: &[u16], s: Shape, from: u32) -> u32
     0
 }
 
-fn record_below(area: &[u16], s: Shape, current: u32) -> Found
-    ensures { found_out result ≡ not_zero (down_live s area.now (current - 1)) NoneBelow }
-{
-    if current == 0 {
-        return Found::Refused(Refusal::NoneBelow);
-    }
-    nonzero(live_down(area, s, current - 1), Refusal::NoneBelow)
-}
-
 // "the given record; 12 for 0, 13 above C, 17 unused"
-fn given_record(area: &[u16], s: Shape, r: u32) -> Found
-    ensures { found_out result ≡ record_given s area.now r }
+#[tactic(auto, unfolding(spec::specs::Cursor::given_record))]
+fn given_record(area: &[u16], s: Shape, r: u32) -> Result<u32, Refusal>
+    ensures is { result ≡ given_record s area.now r }
+    ensures found { IfOk result (λ k. 1 ≤ k) }
 {
     if r == 0 {
-        return Found::Refused(Refusal::RecordZero);
+        return Err(Refusal::RecordZero);
     }
     if (s.cap as u32) < r {
-        return Found::Refused(Refusal::PastCapacity);
+        return Err(Refusal::PastCapacity);
     }
-    if live(area, s, r) {
-        Found::At(r)
-    } else {
-        Found::Refused(Refusal::NoRecord)
+    if !live(area, s, r) {
+        return Err(Refusal::NoRecord);
     }
+    Ok(r)
 }
 
 // "saved forward; 15 if 0", "saved back; 14 if 0"
-fn saved_record(area: &[u16], s: Shape, r: u32, none: Refusal) -> Found
-    ensures { found_out result ≡ record_saved s area.now r none }
+#[tactic(auto, unfolding(spec::specs::Cursor::saved_record, spec::specs::Area::read), using(spec::specs::Follow::goes, spec::specs::Follow::stops))]
+fn saved_record(area: &[u16], s: Shape, r: u32, none: Refusal) -> Result<u32, Refusal>
+    ensures is { result ≡ saved_record s area.now r none }
+    ensures found { IfOk result (λ k. 1 ≤ k) }
 {
-    if r == 0 {
-        return Found::Refused(none);
-    }
+    nonzero(r, none)?;
     if (s.cap as u32) < r {
-        return Found::Refused(Refusal::Broken);
+        return Err(Refusal::Broken);
     }
-    if live(area, s, r) {
-        Found::At(r)
-    } else {
-        Found::Refused(Refusal::Broken)
-    }
+    follow(area, s, r)?;
+    Ok(r)
 }
 
 // "the given key; 17 if absent"
-fn keyed_record(area: &[u16], m: Master, key: &[u16]) -> Found
+#[tactic(auto, unfolding(spec::specs::Cursor::keyed_record), using(spec::specs::Follow::goes, spec::specs::Follow::stops))]
+fn keyed_record(area: &[u16], m: Master, key: &[u16]) -> Result<u32, Refusal>
     requires { 1 ≤ m.shape.cap }
-    ensures { found_out result ≡ record_keyed m area.now key.now }
+    ensures is { result ≡ keyed_record m area.now key.now }
+    ensures found { IfOk result (λ k. 1 ≤ k) }
 {
-    match find_key(area, m, key) {
-        Num::Broken => Found::Refused(Refusal::Broken),
-        Num::Good(r) => nonzero(r, Refusal::NoRecord),
-    }
+    nonzero(find_key(area, m, key)?, Refusal::NoRecord)
 }
 
-// Modes 1 to 4.
-fn numbered_record(area: &[u16], s: Shape, which: ByNumber, c: Cursor, number: u32) -> Found
-    ensures { found_out result ≡ record_numbered (number_of which) s area.now c number }
-{
-    match which {
-        ByNumber::Current => current_record(area, s, c),
-        ByNumber::Above => nonzero(live_above(area, s, c.current), Refusal::NoneAbove),
-        ByNumber::Below => record_below(area, s, c.current),
-        ByNumber::Given => given_record(area, s, number),
-    }
-}
-
-// Modes 5 and 6.
-fn chained_record(area: &[u16], s: Shape, way: Along, c: Cursor) -> Found
-    ensures { found_out result ≡ record_chained (along_of way) s area.now c }
-{
-    match way {
-        Along::Forward => saved_record(area, s, c.fore, Refusal::ChainEnd),
-        Along::Backward => saved_record(area, s, c.back, Refusal::ChainStart),
-    }
-}
-
-// −31, −95, 50, then the record, of a master.
-fn master_record(
-    area: &[u16],
-    m: Master,
-    how: Reading,
-    c: Cursor,
-    number: u32,
-    value: &[u16],
-    room: usize,
-) -> Found
-    requires { 1 ≤ m.shape.cap }
-    ensures { found_out result ≡ asked_record (of_master m how) m.shape area.now c number value.now room }
-{
-    match how {
-        Reading::NoMode => Found::Refused(Refusal::NoMode),
-        Reading::Chained(way) => Found::Refused(Refusal::NoMode),
-        Reading::Keyed => {
-            if value.len() == (m.key.size as usize) {
-                if room < (m.shape.entry as usize) {
-                    Found::Refused(Refusal::ShortBuffer)
-                } else {
-                    keyed_record(area, m, value)
-                }
-            } else {
-                Found::Refused(Refusal::WrongLength)
-            }
-        }
-        Reading::Numbered(which) => {
-            if room < (m.shape.entry as usize) {
-                Found::Refused(Refusal::ShortBuffer)
-            } else {
-                numbered_record(area, m.shape, which, c, number)
-            }
+impl ByNumber {
+    // Modes 1 to 4.
+    #[tactic(auto, unfolding(spec::specs::Cursor::numbered_record))]
+    fn record(self, area: &[u16], s: Shape, c: Cursor, number: u32) -> Result<u32, Refusal>
+        ensures is { result ≡ numbered_record (number_of self) s area.now c number }
+        ensures found { IfOk result (λ k. 1 ≤ k) }
+    {
+        match self {
+            ByNumber::Current => current_record(area, s, c),
+            ByNumber::Above => nonzero(live_above(area, s, c.current), Refusal::NoneAbove),
+            ByNumber::Below => nonzero(
+                live_down(area, s, c.current.saturating_sub(1)),
+                Refusal::NoneBelow,
+            ),
+            ByNumber::Given => given_record(area, s, number),
         }
     }
 }
 
-// Of a master with its cursor.
-fn get_master(
-    area: &[u16],
-    m: Master,
-    mode: u16,
-    c: Cursor,
-    number: u32,
-    value: &[u16],
-    room: usize,
-) -> Outcome
-    requires { 1 ≤ m.shape.cap }
-    ensures live { Readable result }
-    ensures is { got_out result m.shape area.now ≡ got_on (a_master m []) area.now c mode number value.now room }
-{
-    match master_record(area, m, reading_of(mode, 1), c, number, value, room) {
-        Found::Refused(why) => Outcome::Refused(why),
-        Found::At(r) => match synonyms(area, m.shape, r) {
-            HeadRead::Broken => Outcome::Refused(Refusal::Broken),
-            HeadRead::Whole(y) => Outcome::Done(Good {
-                size: m.shape.entry,
-                at: r,
-                number: y.count as u32,
-                links: no_links(),
-                cursor: c.at_record(r, no_links()),
-            }),
-        },
+impl Along {
+    // Modes 5 and 6.
+    #[tactic(auto, unfolding(spec::specs::Cursor::chained_record))]
+    fn record(self, area: &[u16], s: Shape, c: Cursor) -> Result<u32, Refusal>
+        ensures is { result ≡ chained_record (along_of self) s area.now c }
+        ensures found { IfOk result (λ k. 1 ≤ k) }
+    {
+        match self {
+            Along::Forward => saved_record(area, s, c.fore, Refusal::ChainEnd),
+            Along::Backward => saved_record(area, s, c.back, Refusal::ChainStart),
+        }
     }
 }
 
-// −31, −94, 50, then the record, of a detail.
-fn detail_record(area: &[u16], d: Shape, how: Reading, c: Cursor, number: u32, room: usize) -> Found
-    ensures { found_out result ≡ asked_record (of_detail how) d area.now c number [] room }
-{
-    match how {
-        Reading::NoMode => Found::Refused(Refusal::NoMode),
-        Reading::Keyed => Found::Refused(Refusal::NoMode),
-        Reading::Chained(way) => {
-            if c.path == 0 {
-                return Found::Refused(Refusal::NoPath);
-            }
-            if room < (d.entry as usize) {
-                Found::Refused(Refusal::ShortBuffer)
-            } else {
-                chained_record(area, d, way, c)
-            }
+impl<'a> Reading<'a> {
+    // −95: "mode 7: value length wrong"
+    #[tactic(auto, unfolding(spec::specs::Cursor::value_good))]
+    fn value_good(self, value: &[u16]) -> bool
+        ensures { result ≡ value_good (read_by self.entry) value.now }
+    {
+        match self {
+            Reading::Keyed(m) => value.len() == m.master.key.size as usize,
+            _ => true,
         }
-        Reading::Numbered(which) => {
-            if room < (d.entry as usize) {
-                Found::Refused(Refusal::ShortBuffer)
-            } else {
-                numbered_record(area, d, which, c, number)
-            }
+    }
+
+    // −94: "mode 5, 6 with current path 0"
+    #[tactic(auto, unfolding(spec::specs::Cursor::path_chosen))]
+    fn path_chosen(self, c: Cursor) -> bool
+        ensures { result ≡ path_chosen (read_by self.entry) c }
+    {
+        match self {
+            Reading::Chained(_) => c.path != 0,
+            _ => true,
+        }
+    }
+
+    // The table's columns "Reads" and "Otherwise".
+    #[tactic(auto, unfolding(spec::specs::Cursor::record_for))]
+    fn record_for(self, area: &[u16], s: Shape, c: Cursor, asked: Asked) -> Result<u32, Refusal>
+        ensures is { result ≡ record_for (read_by self.entry) s area.now c asked.entry.number asked.entry.value.now }
+        ensures found { IfOk result (λ k. 1 ≤ k) }
+    {
+        match self {
+            Reading::Numbered(which) => which.record(area, s, c, asked.number),
+            Reading::Chained(way) => way.record(area, s, c),
+            Reading::Keyed(m) => keyed_record(area, m.master, asked.value),
         }
     }
 }
 
 // The links on a path, read whole; none on path 0.
-fn links_on(area: &[u16], d: Shape, path: u32, r: u32) -> LinksRead
+#[tactic(auto, unfolding(spec::specs::Cursor::links_readable, spec::specs::Cursor::saved_links), using(spec::specs::Follow::goes, spec::specs::Follow::stops, crate::proofs::Laws::links_seen))]
+fn links_on(area: &[u16], d: Shape, path: u32, r: u32) -> Result<Links, Refusal>
     requires { (1 ≤ r) × (path ≤ 4) }
-    ensures { links_out result ≡ whole_links d area.now path r }
+    ensures whole { IfOk result (λ links. (links_readable d area.now path r ≡ accept tt) × (links ≡ saved_links d area.now path r)) }
+    ensures torn { IfErr result (λ why. links_readable d area.now path r ≡ refuse why) }
 {
     if path == 0 {
-        LinksRead::Whole(no_links())
-    } else {
-        read_links(area, d, r, (4 * (path - 1)) as u16)
+        return Ok(Links::default());
+    }
+    read_links(area, d, r, 4 * (path as u16 - 1))
+}
+
+// What a get tells of record r beside the entry, read whole.
+#[tactic(auto, unfolding(spec::specs::Cursor::readable, spec::specs::Cursor::seen, spec::specs::Layout::detail_of), using(spec::specs::Follow::goes, spec::specs::Follow::stops, crate::proofs::Laws::count_seen))]
+fn seen(named: &Named, area: &[u16], path: u32, r: u32) -> Result<Told, Refusal>
+    requires { (1 ≤ r) × (path ≤ 4) }
+    ensures whole { IfOk result (λ told. (readable (view_out named.now) area.now path r ≡ accept tt) × (told.links ≡ (seen (view_out named.now) area.now path r).links) × (told.number ≡ (seen (view_out named.now) area.now path r).number)) }
+    ensures torn { IfErr result (λ why. readable (view_out named.now) area.now path r ≡ refuse why) }
+{
+    match named {
+        Named::Master(m) => Ok(Told {
+            links: Links::default(),
+            number: synonyms(area, m.master.shape, r)?.count as u32,
+        }),
+        Named::Detail(d) => Ok(Told {
+            links: links_on(area, d.shape, path, r)?,
+            number: 0,
+        }),
     }
 }
 
-// Of a detail with its cursor.
-fn get_detail(area: &[u16], d: Shape, mode: u16, c: Cursor, number: u32, room: usize) -> Outcome
+// Of a named set with its cursor: −31, −95, −94, 50, then the record.
+#[tactic(auto, unfolding(spec::specs::Calls::get_on, crate::specs::Answers::mode_read), using(spec::specs::Follow::goes, spec::specs::Follow::stops, spec::specs::Follow::passes, spec::specs::Follow::fails))]
+fn get_on(named: &Named, area: &[u16], c: Cursor, asked: Asked) -> Result<Got, Refusal>
     requires { c.path ≤ 4 }
-    ensures live { Readable result }
-    ensures is { got_out result d area.now ≡ line_got d area.now c mode number room }
+    ensures { got_out result area.now ≡ get_on (view_out named.now) area.now c asked.entry.mode asked.entry.number asked.entry.value.now asked.entry.room }
 {
-    match detail_record(area, d, reading_of(mode, 3), c, number, room) {
-        Found::Refused(why) => Outcome::Refused(why),
-        Found::At(r) => match links_on(area, d, c.path, r) {
-            LinksRead::Broken => Outcome::Refused(Refusal::Broken),
-            LinksRead::Whole(l) => Outcome::Done(Good {
-                size: d.entry,
-                at: r,
-                number: 0,
-                links: l,
-                cursor: c.at_record(r, l),
-            }),
+    let shape = named.shape();
+    let how = reading_of(named, asked.mode)?;
+    if !how.value_good(asked.value) {
+        return Err(Refusal::WrongLength);
+    }
+    if !how.path_chosen(c) {
+        return Err(Refusal::NoPath);
+    }
+    if asked.room < shape.entry as usize {
+        return Err(Refusal::ShortBuffer);
+    }
+    let at = how.record_for(area, shape, c, asked)?;
+    let Told { links, number } = seen(named, area, c.path, at)?;
+    Ok(Got {
+        good: Good {
+            size: shape.entry,
+            at,
+            number,
+            links,
+            cursor: c.at_record(at, links),
+            passed: [0; 4],
         },
-    }
+        shape,
+    })
 }
 
-// A shape for a refused get, which reads none.
-fn no_shape() -> Shape {
-    Shape {
-        start: 0,
-        map: 0,
-        records: 0,
-        cap: 0,
-        width: 0,
-        front: 0,
-        entry: 0,
-    }
-}
-
-// In a master of the root, by its cursor.
-fn get_in_master(
-    root: &[u16],
-    plan: Plan,
-    area: &[u16],
-    set: u16,
-    mode: u16,
-    c: Cursor,
-    number: u32,
-    value: &[u16],
-    room: usize,
-) -> Got
-    requires planned { Planned root.now plan }
-    requires le_set { (1 ≤ set) × (set ≤ sets root.now) }
-    requires fact { kind root.now set ≡ 3 → ⊥ }
-    ensures live { Readable result.outcome }
-    ensures is { got_out result.outcome result.shape area.now ≡ got_on (a_master (master_in root.now set) (heads_in root.now set)) area.now c mode number value.now room }
-{
-    let m = master_of(root, plan, set);
-    let s = m.shape;
-    Got {
-        outcome: get_master(area, m, mode, c, number, value, room),
-        shape: s,
-    }
-}
-
-// In a detail of the root, by its cursor.
-fn get_in_detail(
-    root: &[u16],
-    plan: Plan,
-    area: &[u16],
-    set: u16,
-    mode: u16,
-    c: Cursor,
-    number: u32,
-    room: usize,
-) -> Got
-    requires planned { Planned root.now plan }
-    requires le_set { (1 ≤ set) × (set ≤ sets root.now) }
-    requires path_bound { c.path ≤ 4 }
-    ensures live { Readable result.outcome }
-    ensures is { got_out result.outcome result.shape area.now ≡ line_got (shape_in root.now set) area.now c mode number room }
-{
-    let d = shape_of(root, plan, set);
-    Got {
-        outcome: get_detail(area, d, mode, c, number, room),
-        shape: d,
-    }
-}
-
+// Get: −91, −92, −21, −93, then the record.
+#[tactic(auto, unfolding(spec::specs::Calls::get_steps), using(named::specs::NamedLaws::ends_unknown))]
 pub fn get_steps(
-    root: &[u16],
+    words: &[u16],
     area: &[u16],
-    session: Session,
+    session: &Session,
     set: u16,
     mode: u16,
     number: u32,
     value: &[u16],
     room: usize,
-) -> Got
-    ensures is { got_out result.outcome result.shape area.now ≡ steps_get root.now area.now session.cursors set mode number value.now room }
-    ensures set { Settable result.outcome set }
-    ensures live { Readable result.outcome }
+) -> Result<Got, Refusal>
+    ensures is { got_out result area.now ≡ get_steps words.now area.now session.now.cursors set mode number value.now room }
+    ensures set { IfOk result (λ _. (1 ≤ set) × (set ≤ 16)) }
 {
-    let b = name_cursor(root, area, session, set);
-    let plan = b.plan;
-    let c = b.cursor;
-    let n = b.naming;
-    match n {
-        Naming::Refused(why) => Got {
-            outcome: Outcome::Refused(why),
-            shape: no_shape(),
+    let root = known(words, area.len())?;
+    let (named, c) = name_cursor(&root, session, set)?;
+    get_on(
+        &named,
+        area,
+        c,
+        Asked {
+            mode,
+            number,
+            value,
+            room,
         },
-        Naming::Master => get_in_master(root, plan, area, set, mode, c, number, value, room),
-        Naming::Detail => get_in_detail(root, plan, area, set, mode, c, number, room),
-    }
+    )
 }

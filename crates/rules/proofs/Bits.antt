@@ -1,5 +1,5 @@
 -- An item's bit that is set or cleared reads so, and every other bit reads as before. Assumes nothing.
-use Prim.Native.Nat.{ℕ, zero, suc, ◌+◌, ◌/◌, ◌%◌, ◌^◌, ◌≤◌, ◌<◌, ◌-◌}
+use Prim.Native.Nat.{ℕ, zero, suc, ◌+◌, ◌*◌, ◌/◌, ◌%◌, ◌^◌, ◌≤◌, ◌<◌, ◌-◌}
 use mathlib.Core.Path.{◌≡◌, refl, sym, ◌∙◌, ap}
 use mathlib.Core.Bool.{Bool, true, false, ◌&&◌, ◌||◌, not}
 use mathlib.Core.Logic.{dite}
@@ -7,7 +7,7 @@ use native.Mathlib.Decide.{dec_lt, ℕ_discrete}
 use native.Mathlib.Nat.{div-eq_of_lt, one-mul, zero-div}
 use native.Mathlib.Omega.{arith}
 use lib.Bits.{bit_or, bit_xor, or_shr, or_mod, xor_shr, xor_mod, or_zero_r, xor_zero_r, shifted_even}
-use lib.Pow.{shl-shr, pow-add, pow-lt}
+use lib.Pow.{shl_exact, shl-shr, pow-add, pow-lt}
 use lib.Dec.{leb, eqb}
 use borrow.Author.Tests.{eq-eqb, ne_eqb, eqb-true, le-leb, leb-true}
 use Rattle.spec.specs.Words.{within}
@@ -128,3 +128,7 @@ held_without w x i e =
     (λ n.
     held_as (bit_xor w (2 ^ (x - 1))) w i (λ t. without_other w (x - 1) (i - 1) (apart x i (held_in w x e).0 n t))
     ∙ and_so (held w i) ∙ rw (ne_eqb x i n))
+
+-- one, shifted by less than a word of 64
+pub one_bit : (i : ℕ) → 1 ≤ i → i ≤ 64 → 1 * 2 ^ (i - 1) % 18446744073709551616 ≡ 2 ^ (i - 1)
+one_bit i l h = shl_exact 1 (i - 1) 64 (omega arith) (omega arith) ∙ one-mul (2 ^ (i - 1))

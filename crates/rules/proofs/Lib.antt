@@ -1,6 +1,7 @@
 pub mod Bits
-pub mod Ladder
-pub mod ItemRules
-pub mod PathRules
-pub mod SetRules
 pub mod RootRules
+pub mod Steps
+pub mod Unused
+pub mod Listing
+pub mod Paths
+pub mod Counting

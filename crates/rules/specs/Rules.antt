@@ -3,11 +3,18 @@
 use Rattle.std.specs.Prelude.{ℕ, ◌+◌, ◌*◌, ◌/◌, ◌%◌, ◌^◌, ◌≤◌, ◌-◌, ◌≡◌, Bool, true, false, ◌&&◌, not, List, length, get_or, eqb}
 use Rattle.spec.specs.Words.{word, within, all, any}
 use Rattle.spec.specs.Root.{items, sets, item_count, path_count, path_search, leading, leading_from, among, has_item, is_text, max_items, max_sets, max_set_items, max_paths, max_number_length, max_text_length, item_good, set_item_good, set_good, set_path_good, root_length}
+use Rattle.std.proofs.Props.{props}
 use Rattle.root.specs.Plan.{place_of, head_number}
 
 -- "Word 1: items, 1..64. Word 2: sets, 1..16."; "nothing follows"
 unfoldable pub framed : List ℕ → Bool
 framed root = within 1 max_items (items root) && within 1 max_sets (sets root) && eqb (length root) (root_length root)
+
+-- what the rules of the sets go by: counts within their limits, and items that keep their rules
+pub record HeadGood (root : List ℕ) : Type 0 where
+  pub few_items : items root ≤ max_items
+  pub few_sets : sets root ≤ max_sets
+  pub items_good : all (items root) (item_good root) ≡ true
 
 unfoldable pub head_good : List ℕ → Bool
 head_good root = framed root && all (items root) (item_good root)
@@ -38,6 +45,10 @@ held w i = within 1 64 i && eqb (w / 2 ^ (i - 1) % 2) 1
 -- the bits are the first n items of set s
 unfoldable pub Holds : List ℕ → ℕ → ℕ → ℕ → Type 0
 Holds root s n w = (i : ℕ) → held w i ≡ among root s n i
+
+pub Holds-prop : (root : List ℕ) (s n w : ℕ) → IsProp (Holds root s n w)
+unfolding Holds
+Holds-prop root s n w = hlevel props
 
 -- the bits are the items of set s that none of its first n paths searches by
 unfoldable pub Spare : List ℕ → ℕ → ℕ → ℕ → Type 0

@@ -1,14 +1,14 @@
 // The session and the answer: sixteen cursors, one replaced per call; ten status words; and how a call's outcome becomes them.
 #![tactic(auto)]
 
-ghost use Rattle.std.specs.Prelude.{◌≡◌, ◌∷◌, [], ◌-◌, ◌≤◌, ◌<◌, get_or, replicate, set as set_at};
+ghost use Rattle.std.specs.Prelude.{◌≡◌, IfOk, ◌-◌, ◌≤◌, ◌<◌, get_or, replicate, set as set_at};
 ghost use Rattle.spec.specs.Outcome.{refused_words};
-ghost use Rattle.spec.specs.Cursor.{fresh, no_links as links_none};
+ghost use Rattle.spec.specs.Cursor.{fresh};
 ghost use Rattle.spec.specs.Calls.{status_words};
-ghost use Rattle.session.specs.Answers.{status_out, cursors_out, passed_out, Settable};
+ghost use Rattle.session.specs.Answers.{status_out, cursors_out, passed_out};
 
 use spec::{Cursor, Links, Refusal};
-use words::{condition, high, low, status_word};
+use words::{high, low, status_word};
 
 // "The 16 cursors are one array that travels by value."
 #[derive(Clone, Copy)]
@@ -24,8 +24,8 @@ pub struct Answer {
     pub passed: [u16; 4],
 }
 
-// What an accepted call tells: the entry's length, the record, the number of status words 5 and 6, the links of 7 to 10, and
-// the named set's cursor.
+// What an accepted call tells: the entry's length, the record, the number of status words 5 and 6, the links of 7 to 10, the
+// named set's cursor, and the lines passed on each path.
 #[derive(Clone, Copy)]
 pub struct Good {
     pub size: u16,
@@ -33,95 +33,90 @@ pub struct Good {
     pub number: u32,
     pub links: Links,
     pub cursor: Cursor,
+    pub passed: [u16; 4],
 }
 
-#[derive(Clone, Copy)]
-pub enum Outcome {
-    Done(Good),
-    Refused(Refusal),
+impl Default for Session {
+    // "fresh is all 0"
+    fn default() -> Session
+        ensures { result.cursors ≡ replicate 16 fresh }
+    {
+        Session {
+            cursors: [Cursor::new(); 16],
+        }
+    }
 }
 
-// "0 on path 0 and for masters"
-pub fn no_links() -> Links
-    ensures { result ≡ links_none }
-{
-    Links { back: 0, fore: 0 }
+impl Session {
+    pub fn cursor_of(&self, set: u16) -> Cursor
+        requires { (1 ≤ set) × (set ≤ 16) }
+        ensures { result ≡ get_or self.now.cursors (set - 1) fresh }
+    {
+        self.cursors[(set - 1) as usize]
+    }
+
+    fn with_cursor(mut self, set: u16, c: Cursor) -> Session
+        requires { (1 ≤ set) × (set ≤ 16) }
+        ensures { result.cursors ≡ set_at self.cursors (set - 1) c }
+    {
+        let own = (set - 1) as usize;
+        self.cursors[own] = c;
+        self
+    }
 }
 
-// "fresh is all 0"
-pub fn fresh_session() -> Session
-    ensures { result.cursors ≡ replicate 16 fresh }
-{
-    let c = Cursor::new();
-    let cs = [c; 16];
-    Session { cursors: cs }
-}
-
-pub fn cursor_of(s: Session, set: u16) -> Cursor
-    requires { (1 ≤ set) × (set ≤ 16) }
-    ensures { result ≡ get_or s.cursors (set - 1) fresh }
-{
-    let i = (set - 1) as usize;
-    s.cursors[i]
-}
-
-fn with_cursor(s: Session, set: u16, c: Cursor) -> Session
-    requires { (1 ≤ set) × (set ≤ 16) }
-    ensures { result.cursors ≡ set_at s.cursors (set - 1) c }
-{
-    let own = (set - 1) as usize;
-    let mut t = s;
-    t.cursors[own] = c;
-    t
-}
-
-// "Status on success: 0; entry length; record; ..; saved back; saved forward."
-fn status_of(size: u16, at: u32, number: u32, l: Links) -> [u16; 10]
-    ensures { result ≡ status_words size at number l }
-{
-    [
-        0,
-        size,
-        high(at),
-        low(at),
-        high(number),
-        low(number),
-        high(l.back),
-        low(l.back),
-        high(l.fore),
-        low(l.fore),
-    ]
+impl Good {
+    // "Status on success: 0; entry length; record; ..; saved back; saved forward."
+    fn status(self) -> [u16; 10]
+        ensures { result ≡ status_words self.size self.at self.number self.links }
+    {
+        [
+            0,
+            self.size,
+            high(self.at),
+            low(self.at),
+            high(self.number),
+            low(self.number),
+            high(self.links.back),
+            low(self.links.back),
+            high(self.links.fore),
+            low(self.links.fore),
+        ]
+    }
 }
 
 // "word 1 the number, nine zeros"
 pub fn refused_status(why: Refusal) -> [u16; 10]
     ensures { result ≡ refused_words why }
 {
-    let w = status_word(condition(why));
+    let w = status_word(i16::from(why));
     [w, 0, 0, 0, 0, 0, 0, 0, 0, 0]
 }
 
 // What the caller is answered.
-pub fn answer_of(o: Outcome, passed: [u16; 4], s: Session, set: u16) -> Answer
-    requires { Settable o set }
+pub fn answer_of(o: Result<Good, Refusal>, s: Session, set: u16) -> Answer
+    requires { IfOk o (λ _. (1 ≤ set) × (set ≤ 16)) }
     ensures status { result.status ≡ status_out o }
     ensures cursors { result.session.cursors ≡ cursors_out o s.cursors set }
-    ensures passed { result.passed ≡ passed_out o passed }
+    ensures passed { result.passed ≡ passed_out o }
 {
     match o {
-        Outcome::Done(g) => {
-            let t = with_cursor(s, set, g.cursor);
-            let w = status_of(g.size, g.at, g.number, g.links);
+        Ok(g) => {
+            let status = g.status();
+            let passed = g.passed;
             Answer {
-                status: w,
-                session: t,
-                passed: passed,
+                status,
+                session: s.with_cursor(set, g.cursor),
+                passed,
             }
         }
-        Outcome::Refused(why) => Answer {
-            status: refused_status(why),
-            session: s,
-            passed: [0; 4],
-        },
+        Err(why) => {
+            let status = refused_status(why);
+            Answer {
+                status,
+                session: s,
+                passed: [0; 4],
+            }
+        }
     }
 }

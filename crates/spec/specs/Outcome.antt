@@ -1,6 +1,8 @@
 -- Document 01, "Condition words": refusals and their numbers, the word that is stored, and what a step comes to.
 -- Assumes nothing.
 use Rattle.std.specs.Prelude.{ℕ, zero, suc, ◌+◌, ◌-◌, Bool, true, false, List, ◌∷◌, ℤ, pos, negsuc, replicate}
+use Rattle.std.specs.Prelude.{Result}
+pub use Rattle.std.specs.Prelude.{Ok as accept, Err as refuse}
 use Rattle.spec.specs.declared.Refusal.{Refusal}
 use Rattle.spec.specs.declared.Refusal.TheVariants.{BadRoot, BadLength, NoSet, BadCursor, NotByCall, NoMode, NotSearched, WrongLength, NoPath, ShortBuffer, NoRecord, NoneBelow, NoneAbove, RecordZero, PastCapacity, ChainStart, ChainEnd, KeyChanged, KeyPresent, SetFull, HasLines, NoEntry, MasterFull, Broken}
 
@@ -63,9 +65,8 @@ refused_words why = twos (number why) ∷ replicate 9 0
 
 -- What a step comes to: accepted with a value, or refused. "Each call is worked as if on a copy: a refusal at any step
 -- leaves the original": a refusal carries no area.
-pub data Outcome (A : Type 0) : Type 0 where
-  accept : A → Outcome A
-  refuse : Refusal → Outcome A
+abbrev pub Outcome : Type 0 → Type 0
+Outcome A = Result A Refusal
 
 -- `x ← step` goes on with what the step gives, or is refused as the step is
 infixl 1 ◌>>=◌

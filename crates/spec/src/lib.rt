@@ -1,8 +1,9 @@
 // The values that the definitions of specs/ and the functions of the engine share. What the engine computes is said in specs/,
-// and each of its functions is proved against one definition there; here are the cursor's own moves alone.
+// and each of its functions is proved against one definition there; here are a refusal's number and the cursor's own moves alone.
 #![tactic(auto)]
 
 ghost use Rattle.std.specs.Prelude.{◌≡◌};
+ghost use Rattle.spec.specs.Outcome.{number};
 ghost use Rattle.spec.specs.Cursor.{fresh, at_chain, at_record};
 
 // Why a call is refused, one case for each row of document 01's table "Condition words". `number` in specs/Outcome.antt
@@ -33,6 +34,41 @@ pub enum Refusal {
     NoEntry(u8),
     MasterFull(u8),
     Broken,
+}
+
+// The paper's number of a refusal, signed.
+#[tactic(auto, unfolding(crate::specs::Outcome::number))]
+impl From<Refusal> for i16 {
+    ghost from_gives = { λ why n. n ≡ number why };
+
+    fn from(why: Refusal) -> i16 {
+        match why {
+            Refusal::BadRoot => -91,
+            Refusal::BadLength => -92,
+            Refusal::NoSet => -21,
+            Refusal::BadCursor => -93,
+            Refusal::NotByCall => -24,
+            Refusal::NoMode => -31,
+            Refusal::NotSearched => -52,
+            Refusal::WrongLength => -95,
+            Refusal::NoPath => -94,
+            Refusal::ShortBuffer => 50,
+            Refusal::NoRecord => 17,
+            Refusal::NoneBelow => 10,
+            Refusal::NoneAbove => 11,
+            Refusal::RecordZero => 12,
+            Refusal::PastCapacity => 13,
+            Refusal::ChainStart => 14,
+            Refusal::ChainEnd => 15,
+            Refusal::KeyChanged => 41,
+            Refusal::KeyPresent => 43,
+            Refusal::SetFull => 16,
+            Refusal::HasLines => 44,
+            Refusal::NoEntry(path) => 100 + i16::from(path),
+            Refusal::MasterFull(path) => 300 + i16::from(path),
+            Refusal::Broken => 18,
+        }
+    }
 }
 
 // An item's place in the entry, and its length in words.
@@ -94,7 +130,7 @@ pub struct Lowered {
 }
 
 // The backward and the forward link of a line on one path.
-#[derive(Clone, Copy)]
+#[derive(Clone, Copy, Default)]
 pub struct Links {
     pub back: u32,
     pub fore: u32,
@@ -124,7 +160,7 @@ pub struct Taken {
 }
 
 // "A cursor: current record, current path, saved back, saved forward."
-#[derive(Clone, Copy)]
+#[derive(Clone, Copy, Default)]
 pub struct Cursor {
     pub current: u32,
     pub path: u32,
@@ -137,12 +173,7 @@ impl Cursor {
     pub fn new() -> Self
         ensures { result ≡ fresh }
     {
-        Cursor {
-            current: 0,
-            path: 0,
-            back: 0,
-            fore: 0,
-        }
+        Self::default()
     }
 
     // "Find sets the path, record 0, back = last, forward = first"

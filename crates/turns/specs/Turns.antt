@@ -3,6 +3,7 @@
 use Rattle.std.specs.Prelude.{ℕ, ◌+◌, ◌*◌, ◌≤◌, ◌<◌, ◌≡◌, List}
 use Rattle.std.proofs.Common.{arith}
 use Rattle.spec.specs.Root.{sets, path_count}
+use Rattle.journal.specs.declared.Journal.{Journal}
 use Rattle.journal.specs.Journal.{Back}
 use Rattle.journal.specs.BackLaws.{back_then, back_more}
 use Rattle.root.specs.declared.Plan.{Plan}
@@ -24,13 +25,13 @@ pub path_within : (root : List ℕ) (s count i : ℕ) → count ≡ path_count r
 path_within root s count i e h = omega arith
 
 -- after i turns, after one more, and after as many as there are paths
-module _ (a₀ j₀ a j : List ℕ) (n i : ℕ) (k : Back a₀ j₀ 0 (173 * i) a j n) where
-  pub paths_all : (root : List ℕ) (s count : ℕ) → count ≡ path_count root s → i ≤ count → Back a₀ j₀ 0 (173 * path_count root s) a j n
-  paths_all root s count e h = back_more _ (omega arith) k
+module _ (a₀ a : List ℕ) (j₀ j : Journal) (i n : ℕ) (k : Back a₀ j₀ (173 * i) a j) where
+  pub paths_all : i ≤ n → Back a₀ j₀ (173 * n) a j
+  paths_all h = back_more _ (omega arith) k
 
-  module _ (a₁ j₁ : List ℕ) (n₁ : ℕ) (b : Back a j n 173 a₁ j₁ n₁) where
-    pub back_next : Back a₀ j₀ 0 (173 * (i + 1)) a₁ j₁ n₁
+  module _ (a₁ : List ℕ) (j₁ : Journal) (b : Back a j 173 a₁ j₁) where
+    pub back_next : Back a₀ j₀ (173 * (i + 1)) a₁ j₁
     back_next = back_more _ (omega arith) (back_then k b)
 
-    pub back_all : (root : List ℕ) (s count : ℕ) → count ≡ path_count root s → i < count → Back a₀ j₀ 0 (173 * path_count root s) a₁ j₁ n₁
-    back_all root s count e h = back_more _ (omega arith) back_next
+    pub back_all : i < n → Back a₀ j₀ (173 * n) a₁ j₁
+    back_all h = back_more _ (omega arith) back_next

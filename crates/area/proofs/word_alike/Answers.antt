@@ -1,12 +1,8 @@
-use mathlib.Core.Bool.{false≢true}
 use Rattle.area.proofs.Laws.{alike_ones, alike_zeros}
 use Rattle.area.proofs.word_alike.Goals as goal
 
 pub returns-then-on : goal.returns-then-on
-returns-then-on c = search alike_ones
+returns-then-on c = alike_ones _ _ _ _ _ _ c.if-r-eq0.true c.map_word.ensures.0 c.word-w.ensures c.if-on.true
 
 pub returns-else-on : goal.returns-else-on
-returns-else-on c = search alike_zeros
-
-pub returns-else-r-eq0 : goal.returns-else-r-eq0
-returns-else-r-eq0 c e = absurd (false≢true e)
+returns-else-on c = alike_zeros _ _ _ _ _ _ c.if-r-eq0.true c.map_word.ensures.0 c.word-w.ensures c.if-on.false

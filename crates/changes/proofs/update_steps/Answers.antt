@@ -1,33 +1,16 @@
-use Rattle.named.specs.NamedLaws.{chosen_detail_high, chosen_detail_low, chosen_detail_plan, chosen_master_high, chosen_master_kind, chosen_master_low, chosen_master_plan}
-use Rattle.changes.proofs.Laws.{update_refused, update_master, update_detail, master_settable, detail_settable}
+use Rattle.std.proofs.lemmas.Result.{err_from_is_err_and}
+use Rattle.changes.proofs.Laws.{update_unchosen, update_goes}
 use Rattle.changes.proofs.update_steps.Goals as goal
 
-pub update_in_master-requires-clause-planned : goal.update_in_master-requires-clause-planned
-update_in_master-requires-clause-planned c = search chosen_master_plan
-
-pub update_in_master-requires-clause-le_set : goal.update_in_master-requires-clause-le_set
-update_in_master-requires-clause-le_set c = (search chosen_master_low, search chosen_master_high)
-
-pub update_in_master-requires-clause-fact : goal.update_in_master-requires-clause-fact
-update_in_master-requires-clause-fact c = search chosen_master_kind
-
-pub update_detail-requires-clause-planned : goal.update_detail-requires-clause-planned
-update_detail-requires-clause-planned c = search chosen_detail_plan
-
-pub update_detail-requires-clause-le_s : goal.update_detail-requires-clause-le_s
-update_detail-requires-clause-le_s c = (search chosen_detail_low, search chosen_detail_high)
-
-pub returns-in-Refused-clause-is : goal.returns-in-Refused-clause-is
-returns-in-Refused-clause-is c = search update_refused
+pub returns-in_err-named-clause-is : goal.returns-in_err-named-clause-is
+returns-in_err-named-clause-is c =
+    let p = err_from_is_err_and c.from_residual-in_err-named.result c.from_residual-in_err-named.ensures.1 in
+    rw (p.1, p.2) (update_unchosen _ _ _ _ c.in_ok-root.ensures.words c.in_ok-root.ensures.is _ _ _ c.in_err-named.ensures.is)
 
 pub returns-in-Master-clause-is : goal.returns-in-Master-clause-is
-returns-in-Master-clause-is c = search update_master
-
-pub returns-in-Master-clause-set : goal.returns-in-Master-clause-set
-returns-in-Master-clause-set c = search master_settable
+returns-in-Master-clause-is c =
+    update_goes _ _ _ _ c.in_ok-root.ensures.words c.in_ok-root.ensures.is _ _ _ _ _ _ c.in_ok-named.ensures.is c.in-Master.is c.update_master.ensures.is
 
 pub returns-in-Detail-clause-is : goal.returns-in-Detail-clause-is
-returns-in-Detail-clause-is c = search update_detail
-
-pub returns-in-Detail-clause-set : goal.returns-in-Detail-clause-set
-returns-in-Detail-clause-set c = search detail_settable
+returns-in-Detail-clause-is c =
+    update_goes _ _ _ _ c.in_ok-root.ensures.words c.in_ok-root.ensures.is _ _ _ _ _ _ c.in_ok-named.ensures.is c.in-Detail.is c.update_detail.ensures.is

@@ -1,12 +1,16 @@
-use Rattle.detail_calls.proofs.Laws.{current_low, current_high, delete_none, delete_goes}
-use borrow.Author.Rules.{rules}
+use Rattle.std.proofs.lemmas.Result.{err_from_is_err_and}
+use Rattle.detail_calls.proofs.Laws.{delete_none, delete_not, delete_done}
 use Rattle.detail_calls.proofs.delete_detail.Goals as goal
 
-pub unline-requires-clause-le_s : goal.unline-requires-clause-le_s
-unline-requires-clause-le_s c = (search rules, search rules, search rules, search current_low, search current_high)
+pub returns-in_err-r-clause-is : goal.returns-in_err-r-clause-is
+returns-in_err-r-clause-is c =
+    let p = err_from_is_err_and c.from_residual.result c.from_residual.ensures.1 in
+    rw (p.1, p.2) (delete_none _ _ _ c.args.d.now.shaped.is _ _ _ c.in_err-r.ensures.is)
 
-pub returns-in-Refused-clause-is : goal.returns-in-Refused-clause-is
-returns-in-Refused-clause-is c = search delete_none
+pub returns-in_err-delete_line-clause-is : goal.returns-in_err-delete_line-clause-is
+returns-in_err-delete_line-clause-is c =
+    let p = err_from_is_err_and c.from_residual-in_err-delete_line.result c.from_residual-in_err-delete_line.ensures.1 in
+    rw (p.1, p.2) (delete_not _ _ _ c.args.d.now.shaped.is _ _ _ c.in_ok-r.ensures.is _ c.in_err-delete_line.ensures.is)
 
-pub returns-in-At-clause-is : goal.returns-in-At-clause-is
-returns-in-At-clause-is c = search delete_goes
+pub returns-clause-is : goal.returns-clause-is
+returns-clause-is c = delete_done _ _ _ c.args.d.now.shaped.is _ _ _ c.in_ok-r.ensures.is _ _ c.in_ok-delete_line.ensures.is c.changed.ensures

@@ -1,18 +1,16 @@
-use borrow.Author.Rules.{rules}
-use Rattle.detail_calls.proofs.Laws.{kept_none, kept_next, kept_sort, kept_search, kept_end}
+use Rattle.std.proofs.Common.{arith}
+use Rattle.detail_calls.proofs.Laws.{kept_none, kept_next, kept_not, kept_end}
 use Rattle.detail_calls.proofs.keeps_paths.Goals as goal
 
-pub loop-p-init : goal.loop-p-init
-loop-p-init c = (search rules, search kept_none)
+pub loop-i-init : goal.loop-i-init
+loop-i-init c = kept_none _ _ _ c.args.d.now.shaped.is _ _ _
 
-pub loop-p-preserved : goal.loop-p-preserved
-loop-p-preserved c = (search rules, search kept_next)
+pub returns-then-not-keeps_path : goal.returns-then-not-keeps_path
+returns-then-not-keeps_path c =
+    kept_not _ _ _ c.args.d.now.shaped.is _ _ _ _ _ c.keeps_path.ensures _ (omega arith) c.if-not-keeps_path.true
 
-pub returns-else-keeps_sort : goal.returns-else-keeps_sort
-returns-else-keeps_sort c = search kept_sort
-
-pub returns-else-keeps_search : goal.returns-else-keeps_search
-returns-else-keeps_search c = search kept_search
+pub loop-i-preserved : goal.loop-i-preserved
+loop-i-preserved c = kept_next _ _ _ c.args.d.now.shaped.is _ _ _ _ _ c.keeps_path.ensures c.loop-i.invariant c.if-not-keeps_path.false
 
 pub returns : goal.returns
-returns c = search kept_end
+returns c = kept_end _ _ _ c.args.d.now.shaped.is _ _ _ _ _ c.loop-i.invariant (omega arith) (omega arith)

@@ -1,20 +1,14 @@
-use Rattle.detail_put.specs.LineLaws.{line_low}
-use Rattle.master_put.specs.PutLaws.{unput}
+use Rattle.std.proofs.lemmas.Result.{err_from_is_err_and}
 use Rattle.detail_calls.proofs.Laws.{put_long, put_not, put_done}
-use borrow.Author.Rules.{rules}
 use Rattle.detail_calls.proofs.put_detail.Goals as goal
 
 pub returns-then-entry-d-clause-is : goal.returns-then-entry-d-clause-is
-returns-then-entry-d-clause-is c = search put_long
+returns-then-entry-d-clause-is c = put_long _ _ _ c.args.d.now.shaped.is _ _ _ c.if-entry-d.true
 
-pub tell_line-g-requires : goal.tell_line-g-requires
-tell_line-g-requires c = (search line_low, search rules)
+pub returns-in_err-l-clause-is : goal.returns-in_err-l-clause-is
+returns-in_err-l-clause-is c =
+    let p = err_from_is_err_and c.from_residual.result c.from_residual.ensures.1 in
+    rw (p.1, p.2) (put_not _ _ _ c.args.d.now.shaped.is _ _ _ c.if-entry-d.false _ c.in_err-l.ensures.is)
 
-pub returns-in-Refused-clause-is : goal.returns-in-Refused-clause-is
-returns-in-Refused-clause-is c = search put_not
-
-pub returns-in-Refused-clause-kept : goal.returns-in-Refused-clause-kept
-returns-in-Refused-clause-kept c = search unput
-
-pub returns-in-At-clause-is : goal.returns-in-At-clause-is
-returns-in-At-clause-is c = search put_done
+pub returns-clause-is : goal.returns-clause-is
+returns-clause-is c = put_done _ _ _ c.args.d.now.shaped.is _ _ _ c.if-entry-d.false _ _ _ c.in_ok-l.ensures.is c.saved_links-links.ensures c.at_record.ensures

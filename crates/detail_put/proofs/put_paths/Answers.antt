@@ -1,26 +1,23 @@
-use borrow.Author.Rules.{rules}
+use Rattle.std.proofs.Common.{arith}
+use Rattle.std.proofs.lemmas.Result.{err_from_is_err_and}
 use Rattle.journal.specs.BackLaws.{back_none}
-use Rattle.turns.specs.Turns.{few, path_within, back_next, back_all, paths_all}
+use Rattle.turns.specs.Turns.{back_next}
 use Rattle.detail_put.proofs.Laws.{left_start, paths_next, paths_refused, paths_end}
 use Rattle.detail_put.proofs.put_paths.Goals as goal
 
 pub loop-i-init : goal.loop-i-init
-loop-i-init c = (search rules, search rules, search few, search rules, search rules, search rules, search back_none, search left_start)
+loop-i-init c = record { back = back_none _ _ _; left = left_start _ _ _ _ _ }
 
-pub put_at-w-requires-clause-le_s : goal.put_at-w-requires-clause-le_s
-put_at-w-requires-clause-le_s c = (search rules, search rules, search rules, search rules, search rules, search path_within, search rules)
+pub returns-in_err-passed-clause-is : goal.returns-in_err-passed-clause-is
+returns-in_err-passed-clause-is c =
+    let p = err_from_is_err_and c.from_residual.result c.from_residual.ensures.1 in
+    rw (p.1, p.2) (paths_refused _ _ _ _ _ _ _ _ _ c.loop-i.invariant.left (omega arith) _ c.in_err-passed.ensures.is)
 
 pub loop-i-preserved : goal.loop-i-preserved
-loop-i-preserved c = (search rules, search rules, search rules, search rules, search rules, search rules, search back_next, paths_next _ _ _ _ _ _ _ _ _ c.loop-i.invariant.7 (search rules) c.put_at-w.result.placing _ c.put_at-w.ensures.is _ c.in-Passed.is)
-
-pub returns-in-Refused-clause-is : goal.returns-in-Refused-clause-is
-returns-in-Refused-clause-is c = search paths_refused
-
-pub returns-in-Refused-clause-back : goal.returns-in-Refused-clause-back
-returns-in-Refused-clause-back c = search back_all
+loop-i-preserved c = record {
+  back = back_next _ _ _ _ _ 0 c.loop-i.invariant.back _ _ c.put_at.ensures.back;
+  left = paths_next _ _ _ _ _ _ _ _ _ c.loop-i.invariant.left (omega arith) _ _ c.in_ok-passed.ensures.is;
+}
 
 pub returns-clause-is : goal.returns-clause-is
-returns-clause-is c = search paths_end
-
-pub returns-clause-back : goal.returns-clause-back
-returns-clause-back c = search paths_all
+returns-clause-is c = paths_end _ _ _ _ _ _ _ _ _ c.loop-i.invariant.left (omega arith)

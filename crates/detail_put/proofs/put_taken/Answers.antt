@@ -1,9 +1,12 @@
-use Rattle.turns.specs.Turns.{two_paths, four_paths}
-use borrow.Author.Rules.{rules}
+use Rattle.journal.specs.BackLaws.{back_start}
+use Rattle.detail_put.proofs.Laws.{line_settled, line_unlined}
 use Rattle.detail_put.proofs.put_taken.Goals as goal
 
-pub put_by-requires-clause-le_s : goal.put_by-requires-clause-le_s
-put_by-requires-clause-le_s c = (search rules, search rules, search rules, search rules, search rules, search rules, search rules, search two_paths)
+pub returns-in-Ok-clause-is : goal.returns-in-Ok-clause-is
+returns-in-Ok-clause-is c = line_settled _ _ _ c.args.d.now.shaped.is _ _ _ _ _ _ c.in-Ok.ensures.is c.settle.ensures
 
-pub put_by-requires-2-clause-le_s : goal.put_by-requires-2-clause-le_s
-put_by-requires-2-clause-le_s c = (search rules, search rules, search rules, search rules, search rules, search rules, search rules, search four_paths)
+pub returns-in-Err-clause-is : goal.returns-in-Err-clause-is
+returns-in-Err-clause-is c = line_unlined _ _ _ c.args.d.now.shaped.is _ _ _ _ c.in-Err.ensures.is
+
+pub returns-in-Err-clause-kept : goal.returns-in-Err-clause-kept
+returns-in-Err-clause-kept c = back_start _ _ _ _ _ _ c.over-jr.ensures.empty c.put_paths.ensures.back (rw c.over-jr.ensures.room c.requires.2) c.rewind.ensures

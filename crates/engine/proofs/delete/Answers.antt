@@ -3,13 +3,13 @@ use Rattle.engine.proofs.Laws.{told_status, told_cursors, told_passed, told_area
 use Rattle.engine.proofs.delete.Goals as goal
 
 pub returns-clause-status : goal.returns-clause-status
-returns-clause-status c = unfold delete in search told_status
+returns-clause-status c = unfold delete in told_status _ _ _ _ _ _ _ _ c.delete_steps-deleted.ensures.is _ c.answer_of.ensures.status
 
 pub returns-clause-cursors : goal.returns-clause-cursors
-returns-clause-cursors c = unfold delete in search told_cursors
+returns-clause-cursors c = unfold delete in told_cursors _ _ _ _ _ _ _ _ c.delete_steps-deleted.ensures.is _ c.answer_of.ensures.cursors
 
 pub returns-clause-passed : goal.returns-clause-passed
-returns-clause-passed c = unfold delete in search told_passed
+returns-clause-passed c = unfold delete in told_passed _ _ _ _ _ _ _ _ c.delete_steps-deleted.ensures.is _ c.answer_of.ensures.passed
 
 pub returns-clause-area : goal.returns-clause-area
-returns-clause-area c = unfold delete in search told_area
+returns-clause-area c = unfold delete in told_area _ _ _ _ _ _ c.delete_steps-deleted.ensures.is c.delete_steps-deleted.ensures.kept

@@ -1,14 +1,15 @@
+use Rattle.std.proofs.Common.{rules}
 use Rattle.engine.proofs.Laws.{make_status, make_area, unmade_status, unmade_area}
 use Rattle.engine.proofs.make.Goals as goal
 
-pub returns-in-Yes-clause-status : goal.returns-in-Yes-clause-status
-returns-in-Yes-clause-status c = search make_status
+pub returns-in-Ok-clause-status : goal.returns-in-Ok-clause-status
+returns-in-Ok-clause-status c = make_status _ _ c.in-Ok.ensures.is
 
-pub returns-in-Yes-clause-area : goal.returns-in-Yes-clause-area
-returns-in-Yes-clause-area c = search make_area
+pub returns-in-Ok-clause-area : goal.returns-in-Ok-clause-area
+returns-in-Ok-clause-area c = make_area _ _ c.in-Ok.ensures.is _ (search rules)
 
-pub returns-in-Refused-clause-status : goal.returns-in-Refused-clause-status
-returns-in-Refused-clause-status c = search unmade_status
+pub returns-in-Err-clause-status : goal.returns-in-Err-clause-status
+returns-in-Err-clause-status c = unmade_status _ _ _ c.in-Err.ensures.is _ c.refused_status.ensures
 
-pub returns-in-Refused-clause-area : goal.returns-in-Refused-clause-area
-returns-in-Refused-clause-area c = search unmade_area
+pub returns-in-Err-clause-area : goal.returns-in-Err-clause-area
+returns-in-Err-clause-area c = unmade_area _ _ _ c.in-Err.ensures.is

@@ -1,20 +1,15 @@
-use Rattle.find.proofs.Laws.{walk_end, walk_long, walk_lost, walk_here, walk_torn, walk_next}
+use Rattle.std.proofs.lemmas.Result.{err_from_is_err_and}
+use Rattle.find.proofs.Laws.{walk_lost, walk_torn}
 use Rattle.find.proofs.find_along.Goals as goal
 
-pub returns-then-left-eq0 : goal.returns-then-left-eq0
-returns-then-left-eq0 c = search walk_long
+pub returns-in_err-follow : goal.returns-in_err-follow
+returns-in_err-follow c =
+    let p = err_from_is_err_and c.from_residual.result c.from_residual.ensures.1 in
+    rw (p.1, p.2) (walk_lost _ _ _ _ _ _ _ c.loop.invariant c.loop-test.true c.if-at-eq0.false _ c.in_err-follow.ensures)
 
-pub returns-then-has_key : goal.returns-then-has_key
-returns-then-has_key c = search walk_here
-
-pub loop-at-preserved : goal.loop-at-preserved
-loop-at-preserved c = search walk_next
-
-pub returns-in-Broken : goal.returns-in-Broken
-returns-in-Broken c = search walk_torn
-
-pub returns-else-live : goal.returns-else-live
-returns-else-live c = search walk_lost
-
-pub returns : goal.returns
-returns c = search walk_end
+pub returns-in_err-at : goal.returns-in_err-at
+returns-in_err-at c =
+    let p = err_from_is_err_and c.from_residual-in_err-at.result c.from_residual-in_err-at.ensures.1 in
+    rw (p.1, p.2)
+    (walk_torn _ _ _ _ _ _ _ c.loop.invariant c.loop-test.true c.if-at-eq0.false c.in_ok-follow.ensures _ c.has_key.ensures _ c.if-has_key.false
+    c.in_err-at.ensures.is)

@@ -1,15 +1,14 @@
-use Rattle.find.proofs.Laws.{heads_end, heads_torn, heads_some, heads_next}
-use borrow.Author.Rules.{rules}
+use Rattle.std.proofs.lemmas.Result.{err_from_is_err_and}
+use Rattle.find.proofs.Laws.{heads_torn, heads_next, heads_end}
 use Rattle.find.proofs.no_lines.Goals as goal
 
-pub returns-then-h-ne0 : goal.returns-then-h-ne0
-returns-then-h-ne0 c = search heads_some
+pub returns-in_err-read_head : goal.returns-in_err-read_head
+returns-in_err-read_head c =
+    let p = err_from_is_err_and c.from_residual.result c.from_residual.ensures.1 in
+    rw (p.1, p.2) (heads_torn _ _ _ _ _ c.loop-j.invariant c.loop-j-test.true _ c.in_err-read_head.ensures.is)
 
 pub loop-j-preserved : goal.loop-j-preserved
-loop-j-preserved c = (search rules, search heads_next)
-
-pub returns-in-Broken : goal.returns-in-Broken
-returns-in-Broken c = search heads_torn
+loop-j-preserved c = heads_next _ _ _ _ _ c.loop-j.invariant c.loop-j-test.true _ c.in_ok-read_head.ensures.is c.if-branch-ne0.false
 
 pub returns : goal.returns
-returns c = search heads_end
+returns c = heads_end _ _ _ _ _ c.loop-j.invariant c.loop-j-test.false

@@ -1,5 +1,4 @@
-use Prim.Native.Nat.{◌≤◌}
-use mathlib.Core.Path.{◌≡◌}
+use Rattle.std.proofs.Common.{◌≡◌, ◌≤◌}
 use Rattle.spec.specs.Master.{unused_from}
 use Rattle.find.proofs.unused_from.Given as goal
 

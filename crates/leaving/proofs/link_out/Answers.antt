@@ -1,9 +1,7 @@
-use Rattle.journal.specs.BackLaws.{back_three}
-use Rattle.leaving.proofs.Laws.{out_is}
+use Rattle.spec.specs.Area.{set_head_count}
+use Rattle.spec.specs.Detail.{link_out}
 use Rattle.leaving.proofs.link_out.Goals as goal
 
 pub returns-clause-is : goal.returns-clause-is
-returns-clause-is c = search out_is
-
-pub returns-clause-back : goal.returns-clause-back
-returns-clause-back c = search back_three
+unfolding link_out set_head_count
+returns-clause-is c = rw (← c.neighbours.ensures.is, ← c.poke.ensures.is) c.old_ends.ensures.is

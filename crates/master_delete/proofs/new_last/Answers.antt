@@ -1,12 +1,12 @@
-use Rattle.journal.specs.BackLaws.{back_none}
-use Rattle.master_delete.proofs.Laws.{last_mended, last_kept}
+use Rattle.std.proofs.Common.{refl, sym, ◌∙◌, ap, ℕ, eq-eqb}
+use Rattle.spec.specs.Area.{mend, mend_synonym_back}
+use Rattle.spec.specs.Master.{new_last}
+use Rattle.spec.specs.Follow.{taken}
 use Rattle.master_delete.proofs.new_last.Goals as goal
 
 pub returns-then-y-eq0-clause-is : goal.returns-then-y-eq0-clause-is
-returns-then-y-eq0-clause-is c = search last_mended
-
-pub returns-else-y-eq0-clause-is : goal.returns-else-y-eq0-clause-is
-returns-else-y-eq0-clause-is c = search last_kept
-
-pub returns-else-y-eq0-clause-back : goal.returns-else-y-eq0-clause-back
-returns-else-y-eq0-clause-back c = search back_none
+unfolding new_last mend_synonym_back
+returns-then-y-eq0-clause-is c =
+    c.mend.ensures.is
+    ∙ ap (λ (l : ℕ). mend c.args.m.shape c.args.area.now c.args.p 1 l) c.unless.ensures
+    ∙ sym (taken _ _ (eq-eqb c.args.y.fore 0 c.if-y-eq0.true) refl)

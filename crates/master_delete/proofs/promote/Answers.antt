@@ -1,8 +1,8 @@
-use Rattle.master_delete.proofs.Laws.{promote_is, promote_back}
+use Rattle.std.proofs.Common.{ap, List, ℕ}
+use Rattle.spec.specs.Master.{erase, promoted, promote}
 use Rattle.master_delete.proofs.promote.Goals as goal
 
 pub returns-clause-is : goal.returns-clause-is
-returns-clause-is c = search promote_is
-
-pub returns-clause-back : goal.returns-clause-back
-returns-clause-back c = search promote_back
+unfolding promote promoted
+returns-clause-is c =
+    rw c.erase.ensures.is (ap (λ (x : List ℕ). erase c.args.m x c.args.y.fore) (rw c.promoted.ensures at c.take_over.ensures.is))

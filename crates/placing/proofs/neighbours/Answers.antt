@@ -1,9 +1,8 @@
-use Rattle.journal.specs.BackLaws.{back_two}
-use Rattle.placing.proofs.Laws.{neighbours_is}
+use Rattle.spec.specs.Area.{mend_back, mend_fore}
+use Rattle.spec.specs.Detail.{link_neighbours}
+use Rattle.std.proofs.Common.{add-zero}
 use Rattle.placing.proofs.neighbours.Goals as goal
 
 pub returns-clause-is : goal.returns-clause-is
-returns-clause-is c = search neighbours_is
-
-pub returns-clause-back : goal.returns-clause-back
-returns-clause-back c = search back_two
+unfolding link_neighbours mend_back mend_fore
+returns-clause-is c = rw (add-zero, ← c.mend.ensures.is) c.mend-2.ensures.is

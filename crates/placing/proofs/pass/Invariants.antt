@@ -1,10 +1,9 @@
-use Prim.Native.Nat.{◌≤◌, ◌-◌}
-use mathlib.Core.Path.{◌≡◌}
-use Rattle.placing.proofs.Laws.{Walk, WholeWalk}
+use Rattle.std.proofs.Common.{◌≡◌, ◌≤◌, ◌-◌}
+use Rattle.spec.specs.Detail.{pass, last_spot}
 use Rattle.placing.proofs.pass.Given as goal
 
-abbrev pub invariant-loop-behind : goal.invariant-loop-behind
-invariant-loop-behind l = (l.passed ≤ l.d.cap) × (WholeWalk l.d l.p l.area l.v l.last ≡ Walk l.d l.p l.area l.v l.behind l.ahead l.passed)
-
-abbrev pub decreases-loop-behind : goal.decreases-loop-behind
-decreases-loop-behind l = l.d.cap - l.passed
+abbrev pub invariant-loop : goal.invariant-loop
+invariant-loop l = record {
+  passed : l.t.passed ≤ l.counter;
+  rest : pass l.d l.p l.area l.v l.d.cap (last_spot l.last) ≡ pass l.d l.p l.area l.v (l.d.cap - l.counter) l.t;
+}

@@ -1,27 +1,24 @@
-use Rattle.named.specs.NamedLaws.{detail_high, detail_low}
-use Rattle.reads.proofs.GetLaws.{find_bad, find_good, find_high, find_low, find_master, find_planned, find_refused, find_settable}
+use Rattle.std.proofs.lemmas.Result.{err_from_is_err_and}
+use Rattle.reads.proofs.Laws.{find_unnamed, find_master, find_misfit, find_goes}
 use Rattle.reads.proofs.find_steps.Goals as goal
 
-pub cursor_good-requires : goal.cursor_good-requires
-cursor_good-requires c = (search detail_low, search detail_high)
+pub returns-in_err-named-clause-is : goal.returns-in_err-named-clause-is
+returns-in_err-named-clause-is c =
+    let p = err_from_is_err_and c.from_residual-in_err-named.result c.from_residual-in_err-named.ensures.1 in
+    rw (p.1, p.2) (find_unnamed _ _ _ _ c.in_ok-root.root c.in_ok-root.ensures.words c.in_ok-root.ensures.is _ _ _ c.in_err-named.ensures.is)
 
-pub find_item-requires-clause-planned : goal.find_item-requires-clause-planned
-find_item-requires-clause-planned c = search find_planned
+pub returns-in_default-clause-is : goal.returns-in_default-clause-is
+returns-in_default-clause-is c =
+    find_master _ _ _ _ c.in_ok-root.root c.in_ok-root.ensures.words c.in_ok-root.ensures.is _ _ _ c.in_ok-named.ensures.is _ c.in_default.is
 
-pub find_item-requires-clause-le_set : goal.find_item-requires-clause-le_set
-find_item-requires-clause-le_set c = (search find_low, search find_high)
+pub returns-in_err-cursor-clause-is : goal.returns-in_err-cursor-clause-is
+returns-in_err-cursor-clause-is c =
+    let p = err_from_is_err_and c.from_residual-in_err-cursor.result c.from_residual-in_err-cursor.ensures.1 in
+    rw (p.1, p.2)
+    (find_misfit _ _ _ _ c.in_ok-root.root c.in_ok-root.ensures.words c.in_ok-root.ensures.is _ _ _ c.in_ok-named.ensures.is c.in_ok-named.ensures.root
+    c.in_ok-named.ensures.number _ c.in-Detail.is _ c.in_err-cursor.ensures.is)
 
-pub returns-in-Refused-clause-is : goal.returns-in-Refused-clause-is
-returns-in-Refused-clause-is c = search find_refused
-
-pub returns-in-Master-clause-is : goal.returns-in-Master-clause-is
-returns-in-Master-clause-is c = search find_master
-
-pub returns-then-cursor_good-clause-is : goal.returns-then-cursor_good-clause-is
-returns-then-cursor_good-clause-is c = search find_good
-
-pub returns-then-cursor_good-clause-set : goal.returns-then-cursor_good-clause-set
-returns-then-cursor_good-clause-set c = search find_settable
-
-pub returns-else-cursor_good-clause-is : goal.returns-else-cursor_good-clause-is
-returns-else-cursor_good-clause-is c = search find_bad
+pub returns-clause-is : goal.returns-clause-is
+returns-clause-is c =
+    find_goes _ _ _ _ c.in_ok-root.root c.in_ok-root.ensures.words c.in_ok-root.ensures.is _ _ _ c.in_ok-named.ensures.is c.in_ok-named.ensures.root
+    c.in_ok-named.ensures.number _ c.in-Detail.is _ _ c.in_ok-cursor.ensures.is c.find_on.ensures

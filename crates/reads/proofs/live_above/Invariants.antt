@@ -1,5 +1,4 @@
-use Prim.Native.Nat.{◌-◌}
-use mathlib.Core.Path.{◌≡◌}
+use Rattle.std.proofs.Common.{◌≡◌, ◌-◌}
 use Rattle.spec.specs.Cursor.{live_above}
 use Rattle.reads.proofs.live_above.Given as goal
 

@@ -1,4 +1,4 @@
-use mathlib.Core.Path.{◌≡◌}
+use Rattle.std.proofs.Common.{◌≡◌}
 use Rattle.spec.specs.Cursor.{live_down}
 use Rattle.reads.proofs.live_down.Given as goal
 

@@ -1,35 +1,17 @@
-use Rattle.reads.proofs.Laws.{way_above, way_backward, way_below, way_current, way_forward, way_given, way_key, way_no_backward, way_no_forward, way_no_key, way_none}
+use Rattle.named.specs.Named.{view_out}
+use Rattle.std.proofs.Common.{ap, arith}
+use Rattle.reads.proofs.Laws.{mode_key, mode_no_forward, mode_no_backward, mode_no_key, mode_other}
+use Rattle.reads.proofs.reading_of.Goals.{in_default-via-in-5+in-Master, in_default-via-in-6+in-Master, in_default-via-in-7+in-Detail, in_default-via-in_default}
 use Rattle.reads.proofs.reading_of.Goals as goal
 
-pub returns-in-1 : goal.returns-in-1
-returns-in-1 c = search way_current
-
-pub returns-in-2 : goal.returns-in-2
-returns-in-2 c = search way_above
-
-pub returns-in-3 : goal.returns-in-3
-returns-in-3 c = search way_below
-
-pub returns-in-4 : goal.returns-in-4
-returns-in-4 c = search way_given
-
-pub returns-then-kind-eq3 : goal.returns-then-kind-eq3
-returns-then-kind-eq3 c = search way_forward
-
-pub returns-else-kind-eq3 : goal.returns-else-kind-eq3
-returns-else-kind-eq3 c = search way_no_forward
-
-pub returns-then-kind-eq3-2 : goal.returns-then-kind-eq3-2
-returns-then-kind-eq3-2 c = search way_backward
-
-pub returns-else-kind-eq3-2 : goal.returns-else-kind-eq3-2
-returns-else-kind-eq3-2 c = search way_no_backward
-
-pub returns-then-kind-eq3-3 : goal.returns-then-kind-eq3-3
-returns-then-kind-eq3-3 c = search way_no_key
-
-pub returns-else-kind-eq3-3 : goal.returns-else-kind-eq3-3
-returns-else-kind-eq3-3 c = search way_key
+pub returns-in-7-Master : goal.returns-in-7-Master
+returns-in-7-Master c = mode_key _ _ _ _ (ap view_out c.in-7-Master.is-1) _ c.in-7-Master.m.mastered.is c.in-7-Master.is-0
 
 pub returns-in_default : goal.returns-in_default
-returns-in_default c = search way_none
+returns-in_default c =
+    elim c.in_default.branch [
+      | in_default-via-in-5+in-Master w ↦ mode_no_forward _ _ _ _ (ap view_out w.in_default.is-1) w.in_default.is-0
+      | in_default-via-in-6+in-Master w ↦ mode_no_backward _ _ _ _ (ap view_out w.in_default.is-1) w.in_default.is-0
+      | in_default-via-in-7+in-Detail w ↦ mode_no_key _ _ _ (ap view_out w.in_default.is-1) w.in_default.is-0
+      | in_default-via-in_default w ↦ let h = w.in_default.is-0 in mode_other _ _ (λ z. omega arith)
+    ]

@@ -1,0 +1,6 @@
+use Rattle.std.proofs.Common.{rules}
+use Rattle.journal.proofs.Laws.{keep_more}
+use Rattle.journal.proofs.Journal.keep.Goals as goal
+
+pub loop-i-preserved : goal.loop-i-preserved
+loop-i-preserved c = record { size = search rules; count = search rules; kept = search keep_more }

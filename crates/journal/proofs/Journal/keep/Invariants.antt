@@ -1,0 +1,10 @@
+use Rattle.std.proofs.Common.{◌≡◌, ◌≤◌, ◌+◌, ◌-◌, length}
+use Rattle.journal.proofs.Laws.{KeptTo}
+use Rattle.journal.proofs.Journal.keep.Given as goal
+
+abbrev pub invariant-loop-i : goal.invariant-loop-i
+invariant-loop-i l = record {
+  size : length l.self.room.now ≡ length l.initial.self.room.now;
+  count : l.self.count ≤ l.initial.self.count + (l.i - l.at);
+  kept : KeptTo l.area l.initial.self l.at l.len l.i l.self;
+}

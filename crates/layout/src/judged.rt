@@ -1,0 +1,125 @@
+// Whether root and area go together (−91, −92): how long the sets of a good root are, and where each begins.
+#![tactic(auto, using(crate::proofs::Good::good_root))]
+
+ghost use Rattle.std.specs.Prelude.{◌≡◌, true, ◌≤◌, IfOk, IfSome, is_some};
+ghost use Rattle.spec.specs.Root.{items, sets, item_type, kind, leading, root_good};
+ghost use Rattle.spec.specs.Layout.{front_words, size_of};
+ghost use Rattle.root.specs.Codes.{kind_code, type_code};
+ghost use Rattle.root.specs.Plan.{Starts};
+ghost use Rattle.layout.specs.Views.{Counted};
+ghost use Rattle.layout.specs.Known.{known_out, known_by};
+ghost use Rattle.std.proofs.Props.{props};
+
+use crate::sets::Root;
+use root::{ItemType, Kind, Plan, Stated};
+use rules::Counts;
+use spec::Refusal;
+
+// A root that keeps its rules, with what its judging counted.
+#[derive(Drop)]
+struct Judged<'a> {
+    root: Stated<'a>,
+    counts: Counts,
+    ghost counted: { Counted root.words.now counts } by { Prim.hlevel props },
+}
+
+// "kind (1 manual master, 2 automatic master, 3 detail)"; a good root has no other.
+pub fn kind_of(root: Stated, s: u16) -> Kind
+    requires good { root_good root.words.now ≡ true }
+    requires there { (1 ≤ s) × (s ≤ sets root.words.now) }
+    ensures { kind_code result ≡ kind root.entry.words.now s }
+{
+    match Kind::try_from(root::kind(root, s)) {
+        Ok(kind) => kind,
+        Err(_) => unreachable!(),
+    }
+}
+
+// "type (1 = I signed, 2 = K unsigned, 3 = X characters)"; an item of a good root has no other.
+pub fn type_of(root: Stated, item: u16) -> ItemType
+    requires good { root_good root.words.now ≡ true }
+    requires there { (1 ≤ item) × (item ≤ items root.words.now) }
+    ensures { type_code result ≡ item_type root.entry.words.now item }
+{
+    match ItemType::try_from(root::item_type(root, item)) {
+        Ok(item_type) => item_type,
+        Err(_) => unreachable!(),
+    }
+}
+
+// "Detail record: for each path a backward and a forward link"; "Master record: five synonym words; five words of chain head
+// for each path leading here"
+pub fn front_words(root: Stated, s: u16, lead: u16) -> u16
+    requires good { root_good root.words.now ≡ true }
+    requires there { (1 ≤ s) × (s ≤ sets root.words.now) }
+    requires lead_value { lead ≡ leading root.words.now s (sets root.words.now) }
+    ensures { result ≡ front_words root.entry.words.now s }
+{
+    match kind_of(root, s) {
+        Kind::Detail => 4 * root::path_count(root, s),
+        _ => 5 + 5 * lead,
+    }
+}
+
+impl<'a> Judged<'a> {
+    // The words of set s: "two words .., then the map, then the records".
+    fn size_of(&self, s: u16) -> u32
+        requires { (1 ≤ s) × (s ≤ sets self.now.root.words.now) }
+        ensures { result ≡ size_of self.now.root.words.now s }
+    {
+        let k = s as usize - 1;
+        let cap = root::capacity(self.root, s) as u32;
+        let width = front_words(self.root, s, self.counts.leads[k]) + self.counts.entries[k];
+        2 + (cap + 15) / 16 + cap * width as u32
+    }
+
+    // "Sets follow one another.": the start of each.
+    fn starts(&self) -> [u32; 16]
+        ensures { Starts self.now.root.words.now result }
+    {
+        let mut starts = [0u32; 16];
+        let mut at = 0;
+        for k in 0..root::sets(self.root) {
+            starts[k as usize] = at;
+            at += self.size_of(k + 1);
+        }
+        starts
+    }
+}
+
+// −91: the root, if it keeps its rules.
+pub fn ruled<'a>(words: &'a [u16]) -> Option<Root<'a>>
+    ensures good { is_some result ≡ root_good words.now }
+    ensures words { IfSome result (λ root. root.words.now ≡ words.now) }
+{
+    let counts = rules::root_judged(words)?;
+    let judged = Judged {
+        root: Stated { words },
+        counts,
+    };
+    let starts = judged.starts();
+    Some(Root {
+        words,
+        plan: Plan {
+            leads: judged.counts.leads,
+            slots: judged.counts.slots,
+            entries: judged.counts.entries,
+            starts,
+        },
+    })
+}
+
+// −91, −92: the root, if it keeps its rules and the area is as long as it means.
+pub fn known<'a>(words: &'a [u16], area: usize) -> Result<Root<'a>, Refusal>
+    ensures words { IfOk result (λ root. root.words.now ≡ words.now) }
+    ensures is { known_out result ≡ known_by words.now area }
+{
+    let Some(root) = ruled(words) else {
+        return Err(Refusal::BadRoot);
+    };
+    if area == root.area_length() as usize {
+        Ok(root)
+    } else {
+        Err(Refusal::BadLength)
+    }
+}

@@ -1,9 +1,0 @@
-use Rattle.journal.specs.BackLaws.{back_two}
-use Rattle.master_delete.proofs.Laws.{lower_is}
-use Rattle.master_delete.proofs.lower.Goals as goal
-
-pub returns-clause-is : goal.returns-clause-is
-returns-clause-is c = search lower_is
-
-pub returns-clause-back : goal.returns-clause-back
-returns-clause-back c = search back_two

@@ -1,5 +1,0 @@
-use Rattle.spec.specs.Root.{path_search}
-use Rattle.root.proofs.path_search.Goals as goal
-
-pub returns : goal.returns
-returns c = unfold path_search in cc

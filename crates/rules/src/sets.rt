@@ -1,0 +1,354 @@
+// The rules of a root's sets and of their paths.
+ghost use Rattle.std.specs.Prelude.{◌≡◌, true, ◌||◌, ◌+◌, ◌-◌, ◌*◌, ◌^◌, ◌≤◌, ◌<◌, length, is_some, IfSome};
+ghost use Rattle.std.proofs.Props.{props};
+ghost use Rattle.spec.specs.Words.{all};
+ghost use Rattle.spec.specs.Root.{items, sets, item_type, description, item_count, key_item, path_count, set_item, is_unsigned, is_text, item_listed, kind_good, set_good, names_master, fits_key, sort_good, path_good, leading, leading_good};
+ghost use Rattle.spec.specs.Layout.{items_length, entry_length};
+ghost use Rattle.root.specs.Plan.{Leads, Slots, Entries, Filled};
+ghost use Rattle.rules.specs.Rules.{unused, items_good, set_judged, Holds, Holds-prop, Spare, Counted, HeadGood};
+
+use crate::Counts;
+use crate::items::ItemSet;
+use root::{ItemType, Kind, Stated};
+
+// A root with its counts in their limits and its length as they say, whose items keep their rules.
+#[derive(Clone, Copy)]
+pub struct Head<'a> {
+    pub root: Stated<'a>,
+    pub ghost good: { HeadGood root.words.now } by { Prim.hlevel props },
+}
+
+// A set of such a root, by its number.
+#[derive(Clone, Copy)]
+pub struct Set<'a> {
+    pub root: Stated<'a>,
+    pub number: u16,
+    pub ghost head: { HeadGood root.words.now } by { Prim.hlevel props },
+    pub ghost there: { (1 ≤ number) × (number ≤ sets root.words.now) },
+}
+
+// The first items of a set: their numbers, which differ, and their words together.
+#[derive(Clone, Copy)]
+struct Listed {
+    items: ItemSet,
+    length: u16,
+}
+
+// A set that keeps the rules about it alone, with its items and the words of its entry.
+#[derive(Clone, Copy)]
+struct GoodSet<'a> {
+    set: Set<'a>,
+    items: ItemSet,
+    length: u16,
+    ghost good: { set_good set.root.words.now set.number ≡ true },
+    ghost few_paths: { path_count set.root.words.now set.number ≤ 4 },
+    ghost holds: { Holds set.root.words.now set.number (item_count set.root.words.now set.number) items.bits } by { Holds-prop _ _ _ _ },
+    ghost measured: { length ≡ entry_length set.root.words.now set.number },
+}
+
+// "Unused places are 0": the n words after a place, all looked at.
+fn zeros(root: Stated, at: usize, n: usize) -> bool
+    requires n_in_bounds { at + n < length root.words.now }
+    requires n_bound { at + n < 2 ^ 62 }
+    ensures { result ≡ all n (unused root.entry.words.now at) }
+{
+    let mut seen = 0;
+    for word in &root.words[at + 1..at + 1 + n] {
+        seen |= *word;
+    }
+    seen == 0
+}
+
+// The same. From eight words on they are two runs of eight, which share what is less than sixteen: a run of a fixed
+// length has no loop.
+fn blank(root: Stated, at: usize, n: usize) -> bool
+    requires n_in_bounds { at + n < length root.words.now }
+    requires n_bound { at + n < 2 ^ 62 }
+    requires n_bound_2 { n ≤ 16 }
+    ensures { result ≡ all n (unused root.entry.words.now at) }
+{
+    if n < 8 {
+        zeros(root, at, n)
+    } else {
+        zeros(root, at, 8) && zeros(root, at + (n - 8), 8)
+    }
+}
+
+impl<'a> Set<'a> {
+    // "a set's items exist and differ": the j-th, if it does, beside those before it.
+    #[tactic(auto, using(std::proofs::lemmas::Bool::Decides::nat_tests), unfolding(spec::specs::Root::item_listed, crate::specs::Rules::Holds))]
+    fn item_listed(&self, j: u16, before: ItemSet) -> Option<u16>
+        requires j_bound { j ≤ 16 }
+        requires holds { Holds self.now.root.words.now self.now.number (j - 1) before.bits }
+        ensures value { is_some result ≡ item_listed self.now.root.words.now self.now.number j }
+        ensures item { IfSome result (λ x. (x ≡ set_item self.now.root.words.now self.now.number j) × (1 ≤ x) × (x ≤ items self.now.root.words.now)) }
+    {
+        let x = root::set_item(self.root, self.number, j);
+        (1 <= x && x <= root::items(self.root) && !before.has(x)).then_some(x)
+    }
+
+    // The first n items.
+    #[tactic(auto, using(crate::proofs::Steps::steps), unfolding(spec::specs::Layout::items_length, spec::specs::Root::among, crate::specs::Rules::Holds))]
+    fn first_items(&self, n: u16) -> Option<Listed>
+        requires n_bound { n ≤ 16 }
+        ensures value { is_some result ≡ all n (item_listed self.now.root.words.now self.now.number) }
+        ensures holds { IfSome result (λ l. Holds self.now.root.words.now self.now.number n l.items.bits) }
+        ensures length_value { IfSome result (λ l. l.length ≡ items_length self.now.root.words.now self.now.number n) }
+    {
+        let mut items = ItemSet::NONE;
+        let mut length = 0;
+        for j in 1..n + 1 {
+            let x = self.item_listed(j, items)?;
+            items = items.with(x);
+            length += root::item_length(self.root, x);
+        }
+        Some(Listed { items, length })
+    }
+
+    // "item count 1..16", and the 16 item numbers: the listed ones, and 0 after them.
+    #[tactic(auto, using(std::proofs::lemmas::Bool::Decides::nat_tests), unfolding(crate::specs::Rules::items_good, spec::specs::Layout::entry_length))]
+    fn items_good(&self) -> Option<Listed>
+        ensures value { is_some result ≡ items_good self.now.root.words.now self.now.number }
+        ensures holds { IfSome result (λ l. Holds self.now.root.words.now self.now.number (item_count self.now.root.words.now self.now.number) l.items.bits) }
+        ensures length_value { IfSome result (λ l. l.length ≡ entry_length self.now.root.words.now self.now.number) }
+    {
+        let n = root::item_count(self.root, self.number);
+        if n < 1 || 16 < n {
+            return None;
+        }
+        let list = self.first_items(n)?;
+        let at = root::description(self.root, self.number) + 4 + (n as usize);
+        blank(self.root, at, 16 - (n as usize)).then_some(list)
+    }
+
+    // "key item number (0 for a detail); path count 0..4 (0 for a master)", "a master's key is among them"
+    #[tactic(auto, using(std::proofs::lemmas::Bool::Decides::nat_tests), unfolding(spec::specs::Root::kind_good, crate::specs::Rules::Holds))]
+    fn kind_good(&self, items: ItemSet) -> bool
+        requires holds { Holds self.now.root.words.now self.now.number (item_count self.now.root.words.now self.now.number) items.bits }
+        ensures { result ≡ kind_good self.now.root.words.now self.now.number }
+    {
+        let key = root::key_item(self.root, self.number);
+        let n = root::path_count(self.root, self.number);
+        match Kind::try_from(root::kind(self.root, self.number)) {
+            Ok(Kind::Detail) => key == 0 && n <= 4,
+            Ok(_) => n == 0 && items.has_number(key),
+            Err(_) => false,
+        }
+    }
+
+    // The rules of the set by itself.
+    #[tactic(auto, using(std::proofs::lemmas::Bool::Decides::nat_tests), unfolding(spec::specs::Root::set_good, crate::specs::Rules::items_good))]
+    fn good(&self) -> Option<GoodSet<'a>>
+        ensures value { is_some result ≡ set_good self.now.root.words.now self.now.number }
+        ensures same { IfSome result (λ s. s.set ≡ self.now) }
+    {
+        let capacity = root::capacity(self.root, self.number);
+        if capacity < 1 || 4095 < capacity {
+            return None;
+        }
+        let Listed { items, length } = self.items_good()?;
+        if self.kind_good(items) {
+            Some(GoodSet {
+                set: *self,
+                items,
+                length,
+            })
+        } else {
+            None
+        }
+    }
+
+    // The set judged, but for the paths that lead to it, its entry measured, and its own paths counted.
+    fn judged(&self, counts: &mut Counts) -> bool
+        requires counted { Counted self.now.root.words.now self.now.number 0 counts.old.leads counts.old.slots }
+        requires filled { Filled (entry_length self.now.root.words.now) self.now.number counts.old.entries }
+        ensures value { result ≡ set_judged self.now.root.words.now self.now.number }
+        ensures counted_2 { result ≡ true → Counted self.now.root.words.now (self.now.number + 1) 0 counts.new.leads counts.new.slots }
+        ensures filled_2 { result ≡ true → Filled (entry_length self.now.root.words.now) (self.now.number + 1) counts.new.entries }
+    {
+        let Some(set) = self.good() else {
+            return false;
+        };
+        counts.entries[(self.number as usize) - 1] = set.length;
+        set.paths_good(counts) && set.rest_unused()
+    }
+
+    // "an automatic master has only its key and at least one path leading to it; at most 8 paths lead to a master"
+    #[tactic(auto, using(std::proofs::lemmas::Bool::Decides::nat_tests), unfolding(spec::specs::Root::leading_good))]
+    fn leading_good(&self, lead: u16) -> bool
+        requires { lead ≡ leading self.now.root.words.now self.now.number (sets self.now.root.words.now) }
+        ensures { result ≡ leading_good self.now.root.words.now self.now.number }
+    {
+        match Kind::try_from(root::kind(self.root, self.number)) {
+            Ok(Kind::Detail) => true,
+            Ok(Kind::Manual) => lead <= 8,
+            _ => root::item_count(self.root, self.number) == 1 && 1 <= lead && lead <= 8,
+        }
+    }
+}
+
+// "A path names a master set"
+#[tactic(auto, using(std::proofs::lemmas::Bool::Decides::nat_tests), unfolding(spec::specs::Root::names_master))]
+fn names_master(root: Stated, m: u16) -> bool
+    ensures { result ≡ names_master root.entry.words.now m }
+{
+    1 <= m
+        && m <= root::sets(root)
+        && matches!(
+            Kind::try_from(root::kind(root, m)),
+            Ok(Kind::Manual | Kind::Automatic)
+        )
+}
+
+// "a search item has its master's key type and length"
+#[tactic(auto, using(std::proofs::lemmas::Bool::Decides::nat_tests), unfolding(spec::specs::Root::fits_key))]
+fn fits_key(root: Stated, i: u16, m: u16) -> bool
+    requires i_bound { i ≤ items root.words.now }
+    requires m_bound { (1 ≤ m) × (m ≤ sets root.words.now) }
+    ensures { result ≡ fits_key root.entry.words.now i (key_item root.entry.words.now m) }
+{
+    let k = root::key_item(root, m);
+    root::item_type(root, i) == root::item_type(root.words, k)
+        && root::item_length(root, i) == root::item_length(root.words, k)
+}
+
+// "a sort item is K or X"
+fn sortable(root: Stated, i: u16) -> bool
+    requires { i ≤ items root.words.now }
+    ensures { result ≡ (is_unsigned (item_type root.entry.words.now i) || is_text (item_type root.entry.words.now i)) }
+{
+    matches!(
+        ItemType::try_from(root::item_type(root, i)),
+        Ok(ItemType::Unsigned | ItemType::Text)
+    )
+}
+
+impl<'a> GoodSet<'a> {
+    // "its items are among its own set's items", "a sort item is K or X and isn't that path's search item" (0: none)
+    #[tactic(auto, using(std::proofs::lemmas::Bool::Decides::nat_tests), unfolding(spec::specs::Root::sort_good, crate::specs::Rules::Holds))]
+    fn sort_good(&self, p: u16) -> bool
+        requires { p ≤ 4 }
+        ensures { result ≡ sort_good self.now.set.root.words.now self.now.set.number p }
+    {
+        let i = root::path_sort(self.set.root, self.set.number, p);
+        let search = root::path_search(self.set.root, self.set.number, p);
+        i == 0 || i != search && self.items.has_number(i) && sortable(self.set.root, i)
+    }
+
+    // The rules of path p. One test of the items left says both "its items are among its own set's items" and "search items
+    // of one set differ".
+    #[tactic(auto, using(std::proofs::lemmas::Bool::Decides::nat_tests), unfolding(spec::specs::Root::path_good, spec::specs::Root::search_good, crate::specs::Rules::Spare))]
+    fn path_good(&self, p: u16, spare: ItemSet) -> bool
+        requires p_bound { p ≤ 4 }
+        requires spare { Spare self.now.set.root.words.now self.now.set.number (p - 1) spare.bits }
+        ensures { result ≡ path_good self.now.set.root.words.now self.now.set.number p }
+    {
+        let m = root::path_master(self.set.root, self.set.number, p);
+        let i = root::path_search(self.set.root, self.set.number, p);
+        names_master(self.set.root, m)
+            && spare.has_number(i)
+            && fits_key(self.set.root, i, m)
+            && self.sort_good(p)
+    }
+
+    // The search item of path p leaves the spare ones.
+    fn searched(&self, p: u16, spare: ItemSet) -> ItemSet
+        requires p_bound { (1 ≤ p) × (p ≤ 4) }
+        requires p_value { path_good self.now.set.root.words.now self.now.set.number p ≡ true }
+        requires spare { Spare self.now.set.root.words.now self.now.set.number (p - 1) spare.bits }
+        ensures { Spare self.now.set.root.words.now self.now.set.number p result.bits }
+    {
+        spare.without(root::path_search(self.set.root, self.set.number, p))
+    }
+
+    // Path p takes the next head of its master.
+    fn count(&self, p: u16, counts: &mut Counts)
+        requires p_bound { (1 ≤ p) × (p ≤ 4) }
+        requires p_value { path_good self.now.set.root.words.now self.now.set.number p ≡ true }
+        requires counted { Counted self.now.set.root.words.now self.now.set.number (p - 1) counts.old.leads counts.old.slots }
+        ensures counted_2 { Counted self.now.set.root.words.now self.now.set.number p counts.new.leads counts.new.slots }
+        ensures same { counts.new.entries ≡ counts.old.entries }
+    {
+        let master = (root::path_master(self.set.root, self.set.number, p) as usize) - 1;
+        let path = 4 * ((self.set.number as usize) - 1) + ((p as usize) - 1);
+        counts.slots[path] = counts.leads[master];
+        counts.leads[master] += 1;
+    }
+
+    // The paths of the set, judged and counted.
+    #[tactic(auto, using(crate::proofs::Steps::steps))]
+    fn paths_good(&self, counts: &mut Counts) -> bool
+        requires counted { Counted self.now.set.root.words.now self.now.set.number 0 counts.old.leads counts.old.slots }
+        ensures value { result ≡ all (path_count self.now.set.root.words.now self.now.set.number) (path_good self.now.set.root.words.now self.now.set.number) }
+        ensures counted_2 { result ≡ true → Counted self.now.set.root.words.now self.now.set.number (path_count self.now.set.root.words.now self.now.set.number) counts.new.leads counts.new.slots }
+        ensures same { counts.new.entries ≡ counts.old.entries }
+    {
+        let mut spare = self.items;
+        for p in 1..root::path_count(self.set.root, self.set.number) + 1 {
+            if !self.path_good(p, spare) {
+                return false;
+            }
+            spare = self.searched(p, spare);
+            self.count(p, counts);
+        }
+        true
+    }
+
+    // "Unused places are 0": the triples after the path count.
+    fn rest_unused(&self) -> bool
+        ensures { result ≡ all (12 - 3 * path_count self.now.set.root.words.now self.now.set.number) (unused self.now.set.root.words.now (description self.now.set.root.words.now self.now.set.number + 20 + 3 * path_count self.now.set.root.words.now self.now.set.number)) }
+    {
+        let n = root::path_count(self.set.root, self.set.number) as usize;
+        let at = root::description(self.set.root, self.set.number) + 20 + 3 * n;
+        blank(self.set.root, at, 12 - 3 * n)
+    }
+}
+
+impl<'a> Head<'a> {
+    // Set s.
+    fn set(&self, s: u16) -> Set<'a>
+        requires { (1 ≤ s) × (s ≤ sets self.now.root.words.now) }
+        ensures root { result.root ≡ self.now.root }
+        ensures number { result.number ≡ s }
+    {
+        Set {
+            root: self.root,
+            number: s,
+        }
+    }
+
+    // The sets judged, but for the paths that lead to them, their entries measured, and all paths counted.
+    #[tactic(auto, using(crate::proofs::Steps::steps))]
+    pub fn sets_judged(&self) -> Option<Counts>
+        ensures value { is_some result ≡ all (sets self.now.root.words.now) (set_judged self.now.root.words.now) }
+        ensures leads { IfSome result (λ c. Leads self.now.root.words.now c.leads) }
+        ensures slots { IfSome result (λ c. Slots self.now.root.words.now c.slots) }
+        ensures entries { IfSome result (λ c. Entries self.now.root.words.now c.entries) }
+    {
+        let mut counts = Counts {
+            leads: [0; 16],
+            slots: [0; 64],
+            entries: [0; 16],
+        };
+        for s in 1..root::sets(self.root) + 1 {
+            if !self.set(s).judged(&mut counts) {
+                return None;
+            }
+        }
+        Some(counts)
+    }
+
+    // Each set, by the paths counted.
+    #[tactic(auto, using(crate::proofs::Steps::steps))]
+    pub fn all_leading_good(&self, counts: &Counts) -> bool
+        requires { Leads self.now.root.words.now counts.now.leads }
+        ensures { result ≡ all (sets self.now.root.words.now) (leading_good self.now.root.words.now) }
+    {
+        for s in 1..root::sets(self.root) + 1 {
+            if !self.set(s).leading_good(counts.leads[(s as usize) - 1]) {
+                return false;
+            }
+        }
+        true
+    }
+}

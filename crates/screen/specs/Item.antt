@@ -1,0 +1,9 @@
+-- An item's type, as the root has it.
+-- Assumes nothing.
+use Rattle.std.specs.Prelude.{ℕ, true, false, eqb}
+use Rattle.screen.specs.declared.entry.ItemType.{ItemType}
+use Rattle.screen.specs.declared.entry.ItemType.TheVariants.{Signed, Unsigned, Characters}
+
+-- "type (1 = I signed, 2 = K unsigned, 3 = X characters)"; a good root has no other
+abbrev pub type_of : ℕ → ItemType
+type_of code = elim (eqb code 1) [ true ↦ Signed | false ↦ elim (eqb code 2) [ true ↦ Unsigned | false ↦ Characters ] ]

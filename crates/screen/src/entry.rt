@@ -1,0 +1,130 @@
+// An entry, item by item.
+ghost use Rattle.std.specs.Prelude.{◌≡◌, ◌≤◌};
+ghost use Rattle.spec.specs.Root.{item_type, item_length, set_item};
+
+use std::io::Write;
+use std::{fmt, io};
+use words::long_at;
+
+// "type (1 = I signed, 2 = K unsigned, 3 = X characters)"
+#[derive(Clone, Copy, Debug, PartialEq, Eq, Hash)]
+pub enum ItemType {
+    Signed,
+    Unsigned,
+    Characters,
+}
+
+impl From<u16> for ItemType {
+    ghost use Rattle.screen.specs.Item.{type_of};
+
+    ghost from_gives = { λ code kind. kind ≡ type_of code };
+
+    fn from(code: u16) -> ItemType {
+        match code {
+            1 => ItemType::Signed,
+            2 => ItemType::Unsigned,
+            _ => ItemType::Characters,
+        }
+    }
+}
+
+impl fmt::Display for ItemType {
+    fn fmt<W: fmt::Write>(&self, f: &mut fmt::Formatter<W>) -> fmt::Result {
+        f.write_str(match self {
+            ItemType::Signed => "I",
+            ItemType::Unsigned => "K",
+            ItemType::Characters => "X",
+        })
+    }
+}
+
+// An item of the root: its number, its type, and its length in words.
+#[derive(Clone, Copy, Debug, PartialEq, Eq, Hash)]
+pub struct Item {
+    pub number: u16,
+    pub kind: ItemType,
+    pub size: u16,
+}
+
+impl Item {
+    ghost use Rattle.screen.specs.Item.{type_of};
+
+    pub fn new(root: &[u16], number: u16) -> Item
+        ensures number_value { result.number ≡ number }
+        ensures kind_value { result.kind ≡ type_of (item_type root.now number) }
+        ensures size_value { result.size ≡ item_length root.now number }
+    {
+        Item {
+            number,
+            kind: ItemType::from(root::item_type(root, number)),
+            size: root::item_length(root, number),
+        }
+    }
+
+    // The j-th item of set s.
+    pub fn of_set(root: &[u16], s: u16, j: u16) -> Item
+        requires { 1 ≤ s }
+        ensures number_value { result.number ≡ set_item root.now s j }
+        ensures kind_value { result.kind ≡ type_of (item_type root.now result.number) }
+        ensures size_value { result.size ≡ item_length root.now result.number }
+    {
+        Item::new(root, root::set_item(root, s, j))
+    }
+}
+
+// A byte that a screen can show; a point for one that it can't.
+fn shown(b: u8) -> u8 {
+    match b {
+        b' '..=b'~' => b,
+        _ => b'.',
+    }
+}
+
+// A text without the blanks at its end.
+fn trimmed(text: &[u8]) -> &[u8] {
+    let blanks = text.iter().rev().take_while(|b| **b == b' ').count();
+    &text[..text.len() - blanks]
+}
+
+// An X item's words as its characters; the longest has 32 words.
+fn say_text<W: Write>(writer: &mut W, words: &[u16]) -> io::Result<()> {
+    if 32 < words.len() {
+        return Ok(());
+    }
+    let mut room = [0u8; 64];
+    lent::unpack(words, &mut room);
+    for b in &mut room {
+        *b = shown(*b);
+    }
+    writer.write_all(b"\"")?;
+    writer.write_all(trimmed(&room[..2 * words.len()]))?;
+    writer.write_all(b"\"")
+}
+
+// An item's words, by its type; a number has one word or two.
+fn say_value<W: Write>(writer: &mut W, kind: ItemType, words: &[u16]) -> io::Result<()> {
+    match (kind, words) {
+        (ItemType::Characters, _) => say_text(writer, words),
+        (ItemType::Signed, [word]) => write!(writer, "{}", word.cast_signed()),
+        (ItemType::Signed, _) => write!(writer, "{}", long_at(words, 0).cast_signed()),
+        (ItemType::Unsigned, [word]) => write!(writer, "{word}"),
+        (ItemType::Unsigned, _) => write!(writer, "{}", long_at(words, 0)),
+    }
+}
+
+// An entry of set s, its items one after another.
+pub fn say_entry<W: Write>(writer: &mut W, root: &[u16], s: u16, entry: &[u16]) -> io::Result<()>
+    requires { 1 ≤ s }
+{
+    let mut rest = entry;
+    for j in 1..=root::item_count(root, s) {
+        let item = Item::of_set(root, s, j);
+        if 1 < j {
+            write!(writer, " ")?;
+        }
+        let (words, after) = rest.split_at(rest.len().min(item.size as usize));
+        say_value(writer, item.kind, words)?;
+        rest = after;
+    }
+    Ok(())
+}

@@ -1,5 +1,0 @@
-use Rattle.spec.specs.Root.{capacity}
-use Rattle.stated.proofs.capacity.Goals as goal
-
-pub returns : goal.returns
-returns c = unfold capacity in cc

@@ -1,5 +1,0 @@
-use Rattle.spec.specs.Root.{kind}
-use Rattle.stated.proofs.kind.Goals as goal
-
-pub returns : goal.returns
-returns c = unfold kind in cc

@@ -1,5 +1,0 @@
-use Rattle.spec.specs.Root.{path_sort}
-use Rattle.stated.proofs.path_sort.Goals as goal
-
-pub returns : goal.returns
-returns c = unfold path_sort in cc
