@@ -1,6 +1,5 @@
 // The area's map, records, heads, links and synonym words, each read and written by one function; what is read whole is held
-// against the rules of answer 18. A function that writes keeps what it overwrites in the journal and hands the journal's count
-// back.
+// against the rules of answer 18. A function that writes keeps what it overwrites in the journal.
 #![tactic(auto)]
 
 ghost use Rattle.std.specs.Prelude.{◌≡◌, true, IfOk, ◌||◌, ◌&&◌, not, ◌+◌, ◌-◌, ◌*◌, ◌≤◌, ◌<◌, ◌^◌, length, eqb, leb};

@@ -1,4 +1,5 @@
-// The changing calls, put, update and delete, up to their outcome. Where the outcome is a refusal, the area is as it was.
+// The changing calls, put, update and delete, up to their outcome. Where the outcome is a refusal, the area is as it was. (Each begins
+// by the same two lines; one function that takes the rest as closures would be longer than the three.)
 #![tactic(auto)]
 
 ghost use Rattle.std.specs.Prelude.{◌≡◌, [], ◌≤◌, IfOk, IfErr};

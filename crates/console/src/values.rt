@@ -4,7 +4,8 @@ ghost use Rattle.std.specs.Prelude.{◌+◌, ◌≤◌, OnOk, vec_len};
 use crate::failed::Failed;
 use crate::rest::{Complaint, Rest};
 use lines::number_of;
-use screen::{Item, ItemType};
+use root::ItemType;
+use screen::Item;
 use words::{high, low};
 
 // The most that an item takes: I is signed, K unsigned, each of one word or two.
@@ -78,7 +79,7 @@ pub fn take_value<'a>(item: Item, rest: &mut Rest<'a>, out: &mut Vec<u16>) -> Re
     ensures { OnOk result (vec_len out.new ≤ vec_len out.old + 32) }
 {
     match item.kind {
-        ItemType::Characters => take_text(item, rest, out),
+        ItemType::Text => take_text(item, rest, out),
         _ => take_number(item, rest, out),
     }
 }

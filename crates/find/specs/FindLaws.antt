@@ -1,8 +1,9 @@
 -- What is known of a master's readings and of their answers. Assumes nothing.
 use Prim.Native.Nat.{ℕ, zero, suc, ◌+◌, ◌-◌, ◌%◌, ◌≤◌, ◌<◌}
-use Rattle.std.specs.Prelude.{◌≡◌, refl, Bool, true, false, cond, not, List, ltb, eqb}
-use Rattle.std.proofs.Common.{mod-lt, ltb-true}
+use Rattle.std.specs.Prelude.{◌≡◌, refl, Bool, true, false, cond, not, ◌||◌, List, ltb, eqb}
+use Rattle.std.proofs.Common.{sym, ◌∙◌, mod-lt, ltb-true, ne_eqb}
 use native.Mathlib.Omega.{arith}
+use Rattle.spec.specs.declared.Refusal.TheVariants.{Broken as BrokenLink}
 use Rattle.spec.specs.declared.Shape.{Shape}
 use Rattle.spec.specs.declared.Lowered.{Lowered}
 use Rattle.spec.specs.declared.Master.{Master}
@@ -11,6 +12,27 @@ use Rattle.spec.specs.Words.{same}
 use Rattle.spec.specs.Area.{live, check, follow, synonyms}
 use Rattle.spec.specs.Master.{address_in, address, key_at, primary_of, find_along, find_primary, find_key, next_up, unused_from, lowered}
 use Rattle.area.specs.AreaLaws.{Then, then_bind, then_told, synonyms_then}
+
+-- ---- a link followed, with the answer of its test, and of `live` for one that is not 0
+module _ (s : Shape) (a : List ℕ) (r : ℕ) (b : Bool) where
+  module _ (e : b ≡ (eqb r 0 || live s a r)) where
+    pub followed : b ≡ true → follow s a r ≡ accept tt
+    unfolding follow
+    followed t = rw (sym e ∙ t)
+
+    pub unfollowed : b ≡ false → follow s a r ≡ refuse BrokenLink
+    unfolding follow
+    unfollowed t = rw (sym e ∙ t)
+
+  module _ (n : r ≡ 0 → ⊥) (e : b ≡ live s a r) where
+    led : b ≡ (eqb r 0 || live s a r)
+    led = rw (ne_eqb r 0 n) e
+
+    pub follow_live : b ≡ true → follow s a r ≡ accept tt
+    follow_live = followed led
+
+    pub follow_unused : b ≡ false → follow s a r ≡ refuse BrokenLink
+    follow_unused = unfollowed led
 
 -- ---- the primary address is a record of the master
 module _ (cap x : ℕ) where

@@ -116,7 +116,7 @@ fn find_primary(area: &[u16], m: Master, key: &[u16], h: u32) -> Result<u32, Ref
 }
 
 // "Find: look at the primary address; unused, or held by a secondary, means absent; otherwise compare along the synonym chain."
-// The record that has the key, 0 where none has.
+// The record that has the key, 0 where none has (its clause's definition has it so).
 #[tactic(auto, unfolding(spec::specs::Master::find_key))]
 pub fn find_key(area: &[u16], m: Master, key: &[u16]) -> Result<u32, Refusal>
     requires { 1 ≤ m.shape.cap }
@@ -151,8 +151,9 @@ fn word_full(area: &[u16], s: Shape, n: u16, r: u32) -> bool
     word_alike(area, s, r, true)
 }
 
-// "the first unused record going up from h, wrapping past C to 1"; 0 where none of n is unused. A full word of the map is passed
-// at once: a nearly full master has long runs of them. (A while loop: its steps are of 1 and of 16 records.)
+// "the first unused record going up from h, wrapping past C to 1"; 0 where none of n is unused (the definition has it so). A full
+// word of the map is passed at once: a nearly full master has long runs of them. (A while loop: its steps are of 1 and of 16
+// records.)
 #[tactic(auto, using(crate::proofs::Laws::up_word, crate::proofs::Laws::up_none, crate::proofs::Laws::up_here, crate::proofs::Laws::up_next))]
 pub fn unused_from(area: &[u16], s: Shape, n: u16, r: u32) -> u32
     requires { 1 ≤ r }

@@ -109,6 +109,7 @@ pub fn number_of(word: &[u8]) -> Option<u32>
     Some(value)
 }
 
+// A small letter as its capital. (By hand: the wrong program that takes a brace for a letter changes this arm.)
 fn upper_case(b: u8) -> u8
     ensures { result ≡ upper_case b }
 {

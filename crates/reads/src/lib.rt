@@ -156,8 +156,8 @@ fn empty_above(area: &[u16], s: Shape, r: u32) -> bool
     word_alike(area, s, r + 1, false)
 }
 
-// "lowest live above current"; 0 where there is none. An empty word of the map is passed at once. (A while loop: its steps are of
-// 1 and of 16 records.)
+// "lowest live above current"; 0 where there is none (the definition has it so). An empty word of the map is passed at once. (A
+// while loop: its steps are of 1 and of 16 records.)
 #[tactic(auto, using(crate::proofs::Laws::above_word, crate::proofs::Laws::above_found, crate::proofs::Laws::above_pass, crate::proofs::Laws::above_end))]
 fn live_above(area: &[u16], s: Shape, from: u32) -> u32
     ensures { result ≡ live_above s area.now (s.cap - from) from }
@@ -187,7 +187,7 @@ fn empty_down(area: &[u16], s: Shape, r: u32) -> bool
     word_alike(area, s, r - 15, false)
 }
 
-// "highest live below current"; 0 where there is none. An empty word of the map is passed at once. (A while loop, as above.)
+// "highest live below current"; 0 where there is none, as above. An empty word of the map is passed at once. (A while loop, as above.)
 #[tactic(auto, using(crate::proofs::Laws::down_word, crate::proofs::Laws::down_found, crate::proofs::Laws::down_pass, crate::proofs::Laws::down_end))]
 fn live_down(area: &[u16], s: Shape, from: u32) -> u32
     ensures { result ≡ live_down s area.now from }

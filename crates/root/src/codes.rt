@@ -1,8 +1,10 @@
 // The number codes of a root: what a set is, and what an item is.
 ghost use Rattle.root.specs.Codes.{KindOf, TypeOf};
 
+use std::fmt;
+
 // "kind (1 manual master, 2 automatic master, 3 detail)"
-#[derive(Clone, Copy, PartialEq, Eq)]
+#[derive(Clone, Copy, Debug, PartialEq, Eq, Hash)]
 pub enum Kind {
     Manual,
     Automatic,
@@ -10,7 +12,7 @@ pub enum Kind {
 }
 
 // "type (1 = I signed, 2 = K unsigned, 3 = X characters)"
-#[derive(Clone, Copy, PartialEq, Eq)]
+#[derive(Clone, Copy, Debug, PartialEq, Eq, Hash)]
 pub enum ItemType {
     Signed,
     Unsigned,
@@ -48,5 +50,27 @@ impl TryFrom<u16> for ItemType {
             3 => Ok(ItemType::Text),
             _ => Err(UnknownCode(code)),
         }
+    }
+}
+
+// As the manual names it.
+impl fmt::Display for Kind {
+    fn fmt<W: fmt::Write>(&self, f: &mut fmt::Formatter<W>) -> fmt::Result {
+        f.write_str(match self {
+            Kind::Manual => "manual master",
+            Kind::Automatic => "automatic master",
+            Kind::Detail => "detail",
+        })
+    }
+}
+
+// By its letter.
+impl fmt::Display for ItemType {
+    fn fmt<W: fmt::Write>(&self, f: &mut fmt::Formatter<W>) -> fmt::Result {
+        f.write_str(match self {
+            ItemType::Signed => "I",
+            ItemType::Unsigned => "K",
+            ItemType::Text => "X",
+        })
     }
 }

@@ -227,7 +227,8 @@ pub fn path_sort<R: Readable>(root: R, s: u16, p: u16) -> u16
 }
 
 // What is counted from a root once. For set s, at s - 1: the paths leading to it, the words of its entry, and its start in
-// the area. For path p of set s, at 4 (s - 1) + p - 1: the number of its head among those of its master.
+// the area. For path p of set s, at 4 (s - 1) + p - 1: the number of its head among those of its master. (Four arrays: a set's paths are
+// counted while other sets are judged, and its start when all are, so an array of records would be filled a field at a time.)
 #[derive(Clone, Copy)]
 pub struct Plan {
     pub leads: [u16; 16],
@@ -236,7 +237,7 @@ pub struct Plan {
     pub starts: [u32; 16],
 }
 
-// The path of set s whose search item is a given one; 0 where there is none.
+// The path of set s whose search item is a given one; 0 where there is none (its clause's definition has it so).
 #[tactic(auto, unfolding(spec::specs::Root::search_path))]
 pub fn search_path<R: Readable>(root: R, s: u16, item: u16) -> u16
     requires set { R.has_set root s }

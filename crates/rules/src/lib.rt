@@ -14,7 +14,7 @@ use root::{ItemType, Stated};
 use sets::Head;
 
 // What is counted from a good root: for set m, at m - 1, the paths that lead to it and the words of its entry; for path p of
-// set s, at 4 (s - 1) + p - 1, the number of its head among those of its master.
+// set s, at 4 (s - 1) + p - 1, the number of its head among those of its master. (Three arrays, as in `root::Plan`.)
 #[derive(Clone, Copy)]
 pub struct Counts {
     pub leads: [u16; 16],

@@ -1,41 +1,19 @@
 // An entry, item by item.
 ghost use Rattle.std.specs.Prelude.{◌≡◌, ◌≤◌};
 ghost use Rattle.spec.specs.Root.{item_type, item_length, set_item};
+ghost use Rattle.screen.specs.Item.{type_of};
 
+use root::ItemType;
+use std::io;
 use std::io::Write;
-use std::{fmt, io};
 use words::long_at;
 
-// "type (1 = I signed, 2 = K unsigned, 3 = X characters)"
-#[derive(Clone, Copy, Debug, PartialEq, Eq, Hash)]
-pub enum ItemType {
-    Signed,
-    Unsigned,
-    Characters,
-}
-
-impl From<u16> for ItemType {
-    ghost use Rattle.screen.specs.Item.{type_of};
-
-    ghost from_gives = { λ code kind. kind ≡ type_of code };
-
-    fn from(code: u16) -> ItemType {
-        match code {
-            1 => ItemType::Signed,
-            2 => ItemType::Unsigned,
-            _ => ItemType::Characters,
-        }
-    }
-}
-
-impl fmt::Display for ItemType {
-    fn fmt<W: fmt::Write>(&self, f: &mut fmt::Formatter<W>) -> fmt::Result {
-        f.write_str(match self {
-            ItemType::Signed => "I",
-            ItemType::Unsigned => "K",
-            ItemType::Characters => "X",
-        })
-    }
+// "type (1 = I signed, 2 = K unsigned, 3 = X characters)"; a good root has no other number.
+#[tactic(auto, using(crate::proofs::Laws::typed))]
+fn type_of(code: u16) -> ItemType
+    ensures { result ≡ type_of code }
+{
+    ItemType::try_from(code).unwrap_or(ItemType::Text)
 }
 
 // An item of the root: its number, its type, and its length in words.
@@ -47,8 +25,6 @@ pub struct Item {
 }
 
 impl Item {
-    ghost use Rattle.screen.specs.Item.{type_of};
-
     pub fn new(root: &[u16], number: u16) -> Item
         ensures number_value { result.number ≡ number }
         ensures kind_value { result.kind ≡ type_of (item_type root.now number) }
@@ -56,7 +32,7 @@ impl Item {
     {
         Item {
             number,
-            kind: ItemType::from(root::item_type(root, number)),
+            kind: type_of(root::item_type(root, number)),
             size: root::item_length(root, number),
         }
     }
@@ -104,7 +80,7 @@ fn say_text<W: Write>(writer: &mut W, words: &[u16]) -> io::Result<()> {
 // An item's words, by its type; a number has one word or two.
 fn say_value<W: Write>(writer: &mut W, kind: ItemType, words: &[u16]) -> io::Result<()> {
     match (kind, words) {
-        (ItemType::Characters, _) => say_text(writer, words),
+        (ItemType::Text, _) => say_text(writer, words),
         (ItemType::Signed, [word]) => write!(writer, "{}", word.cast_signed()),
         (ItemType::Signed, _) => write!(writer, "{}", long_at(words, 0).cast_signed()),
         (ItemType::Unsigned, [word]) => write!(writer, "{word}"),

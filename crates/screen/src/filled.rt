@@ -3,38 +3,10 @@ ghost use Rattle.std.specs.Prelude.{◌≤◌};
 
 use crate::Item;
 use area::{freed, live, mark};
-use root::{item_count, key_item, kind, path_count, path_master, path_search, path_sort};
+use root::{Kind, item_count, key_item, kind, path_count, path_master, path_search, path_sort};
 use spec::Shape;
 use std::io::Write;
 use std::{fmt, io};
-
-// "kind (1 manual master, 2 automatic master, 3 detail)"
-#[derive(Clone, Copy, Debug, PartialEq, Eq, Hash)]
-enum SetKind {
-    Manual,
-    Automatic,
-    Detail,
-}
-
-impl From<u16> for SetKind {
-    fn from(code: u16) -> SetKind {
-        match code {
-            1 => SetKind::Manual,
-            2 => SetKind::Automatic,
-            _ => SetKind::Detail,
-        }
-    }
-}
-
-impl fmt::Display for SetKind {
-    fn fmt<W: fmt::Write>(&self, f: &mut fmt::Formatter<W>) -> fmt::Result {
-        f.write_str(match self {
-            SetKind::Manual => "manual master",
-            SetKind::Automatic => "automatic master",
-            SetKind::Detail => "detail",
-        })
-    }
-}
 
 // How many records of a set are live, and how many it has.
 #[derive(Clone, Copy)]
@@ -104,7 +76,7 @@ fn say_path<W: Write>(writer: &mut W, root: &[u16], s: u16, p: u16) -> io::Resul
 fn say_set<W: Write>(writer: &mut W, root: &[u16], area: &[u16], s: u16) -> io::Result<()>
     requires { 1 ≤ s }
 {
-    let kind = SetKind::from(kind(root, s));
+    let kind = Kind::try_from(kind(root, s)).unwrap_or(Kind::Detail);
     write!(writer, "set {s}: {kind}, ")?;
     match shape(root, s) {
         Some(at) => write!(writer, "{}", Fill::of(area, at))?,

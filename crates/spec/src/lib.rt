@@ -102,7 +102,7 @@ pub struct Master {
 }
 
 // A path of a detail set: the master it leads to, where its head stands in a record there, where its links stand in a
-// line, its search item, and its sort item if it is sorted.
+// line, its search item, and its sort item if it is sorted. (No Option: the definitions read `sorted` and `sort` as they stand.)
 #[derive(Clone, Copy)]
 pub struct Path {
     pub to: Master,

@@ -54,13 +54,7 @@ pub fn low(n: u32) -> u16
     (n % 65536) as u16
 }
 
-pub fn wide(x: u16) -> u64
-    ensures { result ≡ x }
-{
-    x.into()
-}
-
-// Whether two runs of words are the same.
+// Whether two runs of words are the same. (`==` under the definitions' name, so that a clause that says `same` needs no law.)
 #[tactic(auto, using(crate::proofs::Laws::same_compared))]
 pub fn same(a: &[u16], b: &[u16]) -> bool
     ensures { result ≡ same_words a.now b.now }
@@ -68,20 +62,12 @@ pub fn same(a: &[u16], b: &[u16]) -> bool
     a == b
 }
 
-// "words compared unsigned, first word first": whether the first run is greater.
+// "words compared unsigned, first word first": whether the first run is greater. (`>` under the definitions' name.)
 #[tactic(auto, using(crate::proofs::Laws::greater_compared))]
 pub fn greater(a: &[u16], b: &[u16]) -> bool
     ensures { result ≡ greater_words a.now b.now }
 {
     a > b
-}
-
-// The words of a part become those of a run of its length.
-pub fn copy(own: &mut [u16], vs: &[u16])
-    requires { length own.old ≡ length vs.now }
-    ensures { own.new ≡ vs.now }
-{
-    own.copy_from_slice(vs);
 }
 
 // A run of words is laid over those from a place on, as far as there are any: the part that it covers is lent on to be
