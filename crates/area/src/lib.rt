@@ -8,8 +8,9 @@ ghost use Rattle.journal.specs.Journal.{Back};
 ghost use Rattle.area.specs.MapLaws.{Alike};
 
 use journal::Journal;
+use sound::{Entry, Place};
 use spec::{Field, Head, Links, Refusal, Shape};
-use words::{bit_off, bit_on, bit_set, long_at, part, word};
+use words::{Bit, bit_off, bit_on, bit_set, long_at, part, word};
 
 // The product of a record's number and a record's words.
 fn times(a: u32, b: u16) -> usize
@@ -19,36 +20,43 @@ fn times(a: u32, b: u16) -> usize
     (a as usize) * (b as usize)
 }
 
-// Where record r begins.
+// Where record r begins. (0 is no record, and counts as the first, as in the definition.)
 #[tactic(auto, unfolding(spec::specs::Area::place))]
 pub fn place(s: Shape, r: u32) -> usize
-    requires { 1 ≤ r }
     ensures { (result ≡ place s r) × (result ≤ 281474976579585) }
 {
-    let t = times(r - 1, s.width);
+    let t = times(r.saturating_sub(1), s.width);
     (s.records as usize) + t
+}
+
+// Place i in record r.
+fn place_in(s: Shape, r: u32, i: u16) -> Place
+    ensures { result ≡ place s r + i }
+{
+    Place {
+        at: place(s, r) + (i as usize),
+    }
 }
 
 // The word of the map that has record r's bit, and the bit's place in it: record 1 in the highest bit of the first word.
 #[tactic(auto, unfolding(spec::specs::Area::map_place))]
 fn map_word(s: Shape, r: u32) -> usize
-    requires { 1 ≤ r }
     ensures { (result ≡ map_place s r) × (result < 2 ^ 33) }
 {
-    (s.map as usize) + ((r - 1) / 16) as usize
+    (s.map as usize) + (r.saturating_sub(1) / 16) as usize
 }
 
 #[tactic(auto, unfolding(spec::specs::Area::map_bit))]
-fn map_bit_of(r: u32) -> u16
-    requires { 1 ≤ r }
-    ensures { (result ≡ map_bit r) × (result < 16) }
+fn map_bit_of(r: u32) -> Bit
+    ensures { result ≡ map_bit r }
 {
-    (15 - (r - 1) % 16) as u16
+    Bit {
+        place: (15 - r.saturating_sub(1) % 16) as u16,
+    }
 }
 
 #[tactic(auto, unfolding(spec::specs::Area::live))]
 pub fn live(area: &[u16], s: Shape, r: u32) -> bool
-    requires { 1 ≤ r }
     ensures { result ≡ live s area.now r }
 {
     let w = word(area, map_word(s, r));
@@ -58,10 +66,9 @@ pub fn live(area: &[u16], s: Shape, r: u32) -> bool
 // "one bit per record, 1 = live, record 1 in the highest bit of the first word": whether record r is the first of a word of the
 // map whose 16 records are all live, or all unused. A search passes such a word at once.
 pub fn word_alike(area: &[u16], s: Shape, r: u32, on: bool) -> bool
-    requires { 1 ≤ r }
     ensures { result ≡ true → Alike s area.now r on }
 {
-    if (r - 1) % 16 == 0 {
+    if r.saturating_sub(1) % 16 == 0 {
         let w = word(area, map_word(s, r));
         if on { w == 65535 } else { w == 0 }
     } else {
@@ -82,31 +89,28 @@ pub fn follow(area: &[u16], s: Shape, r: u32) -> Result<(), Refusal>
 }
 
 #[tactic(auto, unfolding(spec::specs::Area::go_live))]
-pub fn mark_live(area: &mut [u16], jr: &mut Journal, s: Shape, r: u32)
-    requires { 1 ≤ r }
-    ensures is { area.new ≡ go_live s area.old r }
-    ensures back { Back area.old jr.old 1 area.new jr.new }
+pub fn mark_live(jr: &mut Journal, s: Shape, r: u32)
+    ensures is { jr.new.area.now ≡ go_live s jr.old.area.now r }
+    ensures back { Back jr.old 1 jr.new }
 {
     let at = map_word(s, r);
-    let w = word(area, at);
-    jr.store(area, at, bit_on(w, map_bit_of(r)));
+    let w = word(jr.area(), at);
+    jr.store(Place { at }, bit_on(w, map_bit_of(r)));
 }
 
 #[tactic(auto, unfolding(spec::specs::Area::go_unused))]
-pub fn mark_unused(area: &mut [u16], jr: &mut Journal, s: Shape, r: u32)
-    requires { 1 ≤ r }
-    ensures is { area.new ≡ go_unused s area.old r }
-    ensures back { Back area.old jr.old 1 area.new jr.new }
+pub fn mark_unused(jr: &mut Journal, s: Shape, r: u32)
+    ensures is { jr.new.area.now ≡ go_unused s jr.old.area.now r }
+    ensures back { Back jr.old 1 jr.new }
 {
     let at = map_word(s, r);
-    let w = word(area, at);
-    jr.store(area, at, bit_off(w, map_bit_of(r)));
+    let w = word(jr.area(), at);
+    jr.store(Place { at }, bit_off(w, map_bit_of(r)));
 }
 
 // A word, a link and a run of words of record r, from place i in it on.
 #[tactic(auto, unfolding(spec::specs::Area::peek))]
-pub fn peek(area: &[u16], s: Shape, r: u32, i: u16) -> u16
-    requires { 1 ≤ r }
+pub fn peek(area: &[u16], s: Shape, r: u32, i: u32) -> u16
     ensures { result ≡ peek s area.now r i }
 {
     let at = place(s, r);
@@ -114,8 +118,7 @@ pub fn peek(area: &[u16], s: Shape, r: u32, i: u16) -> u16
 }
 
 #[tactic(auto, unfolding(spec::specs::Area::peek_link))]
-pub fn peek_link(area: &[u16], s: Shape, r: u32, i: u16) -> u32
-    requires { 1 ≤ r }
+pub fn peek_link(area: &[u16], s: Shape, r: u32, i: u32) -> u32
     ensures { result ≡ peek_link s area.now r i }
 {
     let at = place(s, r);
@@ -124,7 +127,6 @@ pub fn peek_link(area: &[u16], s: Shape, r: u32, i: u16) -> u32
 
 #[tactic(auto, unfolding(spec::specs::Area::peek_part))]
 pub fn peek_part(area: &[u16], s: Shape, r: u32, i: u16, n: u16) -> &[u16]
-    requires { 1 ≤ r }
     ensures { result.now ≡ peek_part s area.now r i n }
 {
     let at = place(s, r);
@@ -132,51 +134,44 @@ pub fn peek_part(area: &[u16], s: Shape, r: u32, i: u16, n: u16) -> &[u16]
 }
 
 #[tactic(auto, unfolding(spec::specs::Area::poke))]
-pub fn poke(area: &mut [u16], jr: &mut Journal, s: Shape, r: u32, i: u16, v: u16)
-    requires { 1 ≤ r }
-    ensures is { area.new ≡ poke s area.old r i v }
-    ensures back { Back area.old jr.old 1 area.new jr.new }
+pub fn poke(jr: &mut Journal, s: Shape, r: u32, i: u16, v: u16)
+    ensures is { jr.new.area.now ≡ poke s jr.old.area.now r i v }
+    ensures back { Back jr.old 1 jr.new }
 {
-    let at = place(s, r);
-    jr.store(area, at + (i as usize), v);
+    jr.store(place_in(s, r, i), v);
 }
 
 #[tactic(auto, unfolding(spec::specs::Area::poke_link))]
-pub fn poke_link(area: &mut [u16], jr: &mut Journal, s: Shape, r: u32, i: u16, v: u32)
-    requires { 1 ≤ r }
-    ensures is { area.new ≡ poke_link s area.old r i v }
-    ensures back { Back area.old jr.old 2 area.new jr.new }
+pub fn poke_link(jr: &mut Journal, s: Shape, r: u32, i: u16, v: u32)
+    ensures is { jr.new.area.now ≡ poke_link s jr.old.area.now r i v }
+    ensures back { Back jr.old 2 jr.new }
 {
-    let at = place(s, r);
-    jr.store_long(area, at + (i as usize), v);
+    jr.store_long(place_in(s, r, i), v);
 }
 
 // A link in a neighbour, if there is one.
 #[tactic(auto, unfolding(spec::specs::Area::mend))]
-pub fn mend(area: &mut [u16], jr: &mut Journal, s: Shape, r: u32, i: u16, v: u32)
-    ensures is { area.new ≡ mend s area.old r i v }
-    ensures back { Back area.old jr.old 2 area.new jr.new }
+pub fn mend(jr: &mut Journal, s: Shape, r: u32, i: u16, v: u32)
+    ensures is { jr.new.area.now ≡ mend s jr.old.area.now r i v }
+    ensures back { Back jr.old 2 jr.new }
 {
     if r != 0 {
-        poke_link(area, jr, s, r, i, v);
+        poke_link(jr, s, r, i, v);
     }
 }
 
 // "Unused record: zeros": len words of record r from place i on.
 #[tactic(auto, unfolding(spec::specs::Area::blank, spec::specs::Area::poke_part))]
-pub fn blank(area: &mut [u16], jr: &mut Journal, s: Shape, r: u32, i: u16, len: u16)
-    requires { 1 ≤ r }
-    ensures is { area.new ≡ blank s area.old r i len }
-    ensures back { Back area.old jr.old len area.new jr.new }
+pub fn blank(jr: &mut Journal, s: Shape, r: u32, i: u16, len: u16)
+    ensures is { jr.new.area.now ≡ blank s jr.old.area.now r i len }
+    ensures back { Back jr.old len jr.new }
 {
-    let at = place(s, r);
-    jr.store_zeros(area, at + (i as usize), len as usize);
+    jr.store_zeros(place_in(s, r, i), len);
 }
 
 // An item of the entry in record r, and the whole entry.
 #[tactic(auto, unfolding(spec::specs::Area::value_at, spec::specs::Area::peek_part))]
 pub fn value_at(area: &[u16], s: Shape, f: Field, r: u32) -> &[u16]
-    requires { 1 ≤ r }
     ensures { result.now ≡ value_at s f area.now r }
 {
     let at = place(s, r);
@@ -189,40 +184,28 @@ pub fn value_at(area: &[u16], s: Shape, f: Field, r: u32) -> &[u16]
 
 #[tactic(auto, unfolding(spec::specs::Area::entry_at))]
 pub fn entry_at(area: &[u16], s: Shape, r: u32) -> &[u16]
-    requires { 1 ≤ r }
     ensures { result.now ≡ entry_at s area.now r }
 {
     peek_part(area, s, r, s.front, s.entry)
 }
 
 #[tactic(auto, unfolding(spec::specs::Area::put_entry_at, spec::specs::Area::poke_part))]
-pub fn put_entry(area: &mut [u16], jr: &mut Journal, s: Shape, r: u32, entry: &[u16])
-    requires { (1 ≤ r) × (length entry.now ≤ 65535) }
-    ensures is { area.new ≡ put_entry_at s area.old r entry.now }
-    ensures back { Back area.old jr.old (length entry.now) area.new jr.new }
+pub fn put_entry(jr: &mut Journal, s: Shape, r: u32, entry: &Entry)
+    ensures is { jr.new.area.now ≡ put_entry_at s jr.old.area.now r entry.now }
+    ensures back { Back jr.old (length entry.now) jr.new }
 {
-    let at = place(s, r);
-    jr.store_run(area, at + (s.front as usize), entry);
+    jr.store_run(place_in(s, r, s.front), entry);
 }
 
 // The words of record `from`, from place i in it on, in record `to`: "heads and entry are copied unread".
 #[tactic(auto, unfolding(spec::specs::Area::copy_part, spec::specs::Area::poke_part, spec::specs::Area::peek_part))]
-pub fn carry_part(
-    area: &mut [u16],
-    jr: &mut Journal,
-    s: Shape,
-    from: u32,
-    to: u32,
-    i: u16,
-    len: u16,
-)
-    requires { (1 ≤ from) × (1 ≤ to) × (len ≤ 557) }
-    ensures is { area.new ≡ copy_part s area.old from to i len }
-    ensures back { Back area.old jr.old len area.new jr.new }
+pub fn carry_part(jr: &mut Journal, s: Shape, from: u32, to: u32, i: u16, len: u16)
+    requires { len ≤ 557 }
+    ensures is { jr.new.area.now ≡ copy_part s jr.old.area.now from to i len }
+    ensures back { Back jr.old len jr.new }
 {
-    let a = place(s, from);
-    let b = place(s, to);
-    jr.store_moved(area, a + (i as usize), b + (i as usize), len as usize);
+    let at = place(s, from) + (i as usize);
+    jr.store_moved(at, place_in(s, to, i), len);
 }
 
 // A set's two leading words.
@@ -241,19 +224,21 @@ pub fn freed(area: &[u16], s: Shape) -> u16
 }
 
 #[tactic(auto, unfolding(spec::specs::Area::set_mark))]
-pub fn set_mark(area: &mut [u16], jr: &mut Journal, s: Shape, v: u16)
-    ensures is { area.new ≡ set_mark s area.old v }
-    ensures back { Back area.old jr.old 1 area.new jr.new }
+pub fn set_mark(jr: &mut Journal, s: Shape, v: u16)
+    ensures is { jr.new.area.now ≡ set_mark s jr.old.area.now v }
+    ensures back { Back jr.old 1 jr.new }
 {
-    jr.store(area, s.start as usize, v);
+    let at = s.start as usize;
+    jr.store(Place { at }, v);
 }
 
 #[tactic(auto, unfolding(spec::specs::Area::set_freed))]
-pub fn set_freed(area: &mut [u16], jr: &mut Journal, s: Shape, v: u16)
-    ensures is { area.new ≡ set_freed s area.old v }
-    ensures back { Back area.old jr.old 1 area.new jr.new }
+pub fn set_freed(jr: &mut Journal, s: Shape, v: u16)
+    ensures is { jr.new.area.now ≡ set_freed s jr.old.area.now v }
+    ensures back { Back jr.old 1 jr.new }
 {
-    jr.store(area, (s.start as usize) + 1, v);
+    let at = (s.start as usize) + 1;
+    jr.store(Place { at }, v);
 }
 
 // Answer 18: "a link above C", a count above its set's capacity.
@@ -293,44 +278,40 @@ fn read_synonym(limit: u16, r: u32, link: u32) -> Result<u32, Refusal>
 // A head, read whole, against the detail's capacity: count, last, first.
 #[tactic(auto, unfolding(spec::specs::Area::read_head), using(spec::specs::Follow::goes, spec::specs::Follow::stops))]
 pub fn read_head(area: &[u16], limit: u16, s: Shape, r: u32, at: u16) -> Result<Head, Refusal>
-    requires { (1 ≤ r) × (at ≤ 65000) }
     ensures is { result ≡ read_head limit s area.now r at }
     ensures within { IfOk result (λ h. (h.count ≤ limit) × (h.back ≤ limit) × (h.fore ≤ limit)) }
 {
-    let count = read_word(limit, peek(area, s, r, at))?;
-    let back = read(limit, peek_link(area, s, r, at + 1))?;
-    let fore = read(limit, peek_link(area, s, r, at + 3))?;
+    let count = read_word(limit, peek(area, s, r, u32::from(at)))?;
+    let back = read(limit, peek_link(area, s, r, u32::from(at) + 1))?;
+    let fore = read(limit, peek_link(area, s, r, u32::from(at) + 3))?;
     Ok(Head { count, back, fore })
 }
 
 // The pair of links at a place in line r: backward, forward.
 #[tactic(auto, unfolding(spec::specs::Area::peek_links))]
 pub fn peek_links(area: &[u16], s: Shape, r: u32, at: u16) -> Links
-    requires { (1 ≤ r) × (at ≤ 65000) }
     ensures { result ≡ peek_links s area.now r at }
 {
     Links {
-        back: peek_link(area, s, r, at),
-        fore: peek_link(area, s, r, at + 2),
+        back: peek_link(area, s, r, u32::from(at)),
+        fore: peek_link(area, s, r, u32::from(at) + 2),
     }
 }
 
 // The same, read whole.
 #[tactic(auto, unfolding(spec::specs::Area::read_links), using(spec::specs::Follow::goes, spec::specs::Follow::stops))]
 pub fn read_links(area: &[u16], s: Shape, r: u32, at: u16) -> Result<Links, Refusal>
-    requires { (1 ≤ r) × (at ≤ 65000) }
     ensures is { result ≡ read_links s area.now r at }
     ensures within { IfOk result (λ l. (l.back ≤ s.cap) × (l.fore ≤ s.cap)) }
 {
-    let back = read(s.cap, peek_link(area, s, r, at))?;
-    let fore = read(s.cap, peek_link(area, s, r, at + 2))?;
+    let back = read(s.cap, peek_link(area, s, r, u32::from(at)))?;
+    let fore = read(s.cap, peek_link(area, s, r, u32::from(at) + 2))?;
     Ok(Links { back, fore })
 }
 
 // The five synonym words of record r, read whole.
 #[tactic(auto, unfolding(spec::specs::Area::synonyms, spec::specs::Area::synonym_count), using(spec::specs::Follow::goes, spec::specs::Follow::stops))]
 pub fn synonyms(area: &[u16], s: Shape, r: u32) -> Result<Head, Refusal>
-    requires { 1 ≤ r }
     ensures is { result ≡ synonyms s area.now r }
     ensures within { IfOk result (λ y. (y.count ≤ s.cap) × (y.back ≤ s.cap) × (y.fore ≤ s.cap)) }
 {
@@ -341,12 +322,11 @@ pub fn synonyms(area: &[u16], s: Shape, r: u32) -> Result<Head, Refusal>
 }
 
 #[tactic(auto, unfolding(spec::specs::Area::set_synonyms), using(journal::specs::BackLaws::back_three))]
-pub fn set_synonyms(area: &mut [u16], jr: &mut Journal, s: Shape, r: u32, y: Head)
-    requires { 1 ≤ r }
-    ensures is { area.new ≡ set_synonyms s area.old r y }
-    ensures back { Back area.old jr.old 5 area.new jr.new }
+pub fn set_synonyms(jr: &mut Journal, s: Shape, r: u32, y: Head)
+    ensures is { jr.new.area.now ≡ set_synonyms s jr.old.area.now r y }
+    ensures back { Back jr.old 5 jr.new }
 {
-    poke(area, jr, s, r, 0, y.count);
-    poke_link(area, jr, s, r, 1, y.back);
-    poke_link(area, jr, s, r, 3, y.fore);
+    poke(jr, s, r, 0, y.count);
+    poke_link(jr, s, r, 1, y.back);
+    poke_link(jr, s, r, 3, y.fore);
 }

@@ -13,7 +13,7 @@ use named::{Named, name_cursor};
 use session::{Good, Session};
 use spec::Refusal;
 
-#[tactic(auto, unfolding(spec::specs::Calls::put_steps), using(named::specs::NamedLaws::ends_unknown, named::specs::NamedLaws::ends_unchosen))]
+#[tactic(auto, unfolding(spec::specs::Calls::put_steps, spec::specs::Calls::named_set, named::specs::Named::set_named, named::specs::Named::cursor_named), using(layout::specs::Known::known_by_length))]
 pub fn put_steps(
     words: &[u16],
     area: &mut [u16],
@@ -33,7 +33,7 @@ pub fn put_steps(
     }
 }
 
-#[tactic(auto, unfolding(spec::specs::Calls::update_steps), using(named::specs::NamedLaws::ends_unknown, named::specs::NamedLaws::ends_unchosen))]
+#[tactic(auto, unfolding(spec::specs::Calls::update_steps, spec::specs::Calls::named_set, named::specs::Named::set_named, named::specs::Named::cursor_named), using(layout::specs::Known::known_by_length))]
 pub fn update_steps(
     words: &[u16],
     area: &mut [u16],
@@ -53,7 +53,7 @@ pub fn update_steps(
     }
 }
 
-#[tactic(auto, unfolding(spec::specs::Calls::delete_steps), using(named::specs::NamedLaws::ends_unknown, named::specs::NamedLaws::ends_unchosen))]
+#[tactic(auto, unfolding(spec::specs::Calls::delete_steps, spec::specs::Calls::named_set, named::specs::Named::set_named, named::specs::Named::cursor_named), using(layout::specs::Known::known_by_length))]
 pub fn delete_steps(
     words: &[u16],
     area: &mut [u16],

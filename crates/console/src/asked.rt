@@ -4,7 +4,7 @@ ghost use Rattle.std.specs.Prelude.{◌≤◌, IsTrue};
 use crate::failed::Failed;
 use crate::rest::{Complaint, Rest};
 use crate::values::take_value;
-use screen::Item;
+use screen::{Item, ListedSet};
 
 // The chain that a find names: a set and its search item.
 #[derive(Clone, Copy, Debug)]
@@ -47,8 +47,9 @@ pub fn ask_entry<'a>(
 ) -> Result<u16, Failed<'a>> {
     let set = rest.word("the set")?;
     if has_set(root, set) {
+        let listed = ListedSet { root, number: set };
         for j in 1..=root::item_count(root, set) {
-            take_value(Item::of_set(root, set, j), &mut rest, entry)?;
+            take_value(listed.item(j), &mut rest, entry)?;
         }
         rest.end()?;
     }

@@ -3,7 +3,7 @@ use crate::asked::{Chain, Get, ask_chain, ask_entry, ask_get, ask_set};
 use crate::desk::{Desk, Status};
 use crate::failed::Failed;
 use crate::rest::Rest;
-use screen::{Refused, say_entry};
+use screen::{ListedSet, Refused};
 use session::{Answer, Session};
 use std::io::Write;
 use std::{fmt, io};
@@ -37,7 +37,8 @@ fn say_read<W: Write>(
 ) -> io::Result<()> {
     write!(writer, "{}: ", status.record())?;
     if 0 < set {
-        say_entry(writer, root, set, part(entry, 0, status.size() as usize))?;
+        let listed = ListedSet { root, number: set };
+        listed.say_entry(writer, part(entry, 0, status.size() as usize))?;
     }
     Ok(())
 }

@@ -41,18 +41,21 @@ pub fn get(
     engine::get(root, area, session, set, mode, number, value, buffer)
 }
 
+#[tactic(auto, unfolding(crate::specs::OneOutcome::Puts))]
 pub fn put(root: &[u16], area: &mut [u16], session: Session, set: u16, entry: &[u16]) -> Answer
     ensures { Puts root.now area.old session.cursors set entry.now (record { status = result.status; cursors = result.session.cursors; passed = result.passed; area = area.new }) }
 {
     engine::put(root, area, session, set, entry)
 }
 
+#[tactic(auto, unfolding(crate::specs::OneOutcome::Updates))]
 pub fn update(root: &[u16], area: &mut [u16], session: Session, set: u16, entry: &[u16]) -> Answer
     ensures { Updates root.now area.old session.cursors set entry.now (record { status = result.status; cursors = result.session.cursors; passed = result.passed; area = area.new }) }
 {
     engine::update(root, area, session, set, entry)
 }
 
+#[tactic(auto, unfolding(crate::specs::OneOutcome::Deletes))]
 pub fn delete(root: &[u16], area: &mut [u16], session: Session, set: u16) -> Answer
     ensures { Deletes root.now area.old session.cursors set (record { status = result.status; cursors = result.session.cursors; passed = result.passed; area = area.new }) }
 {

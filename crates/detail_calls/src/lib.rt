@@ -2,7 +2,7 @@
 // was.
 #![tactic(auto)]
 
-ghost use Rattle.std.specs.Prelude.{◌≡◌, [], IfErr, ◌+◌, ◌≤◌, ◌<◌, ◌&&◌, length};
+ghost use Rattle.std.specs.Prelude.{◌≡◌, [], IfErr, ◌≤◌, ◌&&◌};
 ghost use Rattle.spec.specs.Root.{path_count};
 ghost use Rattle.spec.specs.Layout.{a_detail, detail_of, path_of};
 ghost use Rattle.spec.specs.Cursor.{saved_links};
@@ -12,16 +12,17 @@ ghost use Rattle.session.specs.Answers.{done_out};
 use area::peek_links;
 use detail_delete::delete_line;
 use detail_put::put_line;
-use layout::DetailSet;
+use layout::{DetailSet, SetPath};
 use master_calls::{changed, keeps, write_over};
 use named::current_record;
 use session::Good;
+use sound::Entry;
 use spec::{Cursor, Links, Refusal, Shape};
 
 // A line's links on a path; none on path 0.
 #[tactic(auto, unfolding(spec::specs::Cursor::saved_links, spec::specs::Layout::links_of))]
 fn saved_links(area: &[u16], d: Shape, path: u32, r: u32) -> Links
-    requires { (1 ≤ r) × (path ≤ 4) }
+    requires { path ≤ 4 }
     ensures { result ≡ saved_links d area.now path r }
 {
     if path == 0 {
@@ -32,6 +33,7 @@ fn saved_links(area: &[u16], d: Shape, path: u32, r: u32) -> Links
 }
 
 // −95, then the put.
+#[tactic(auto, unfolding(spec::specs::Calls::put_on, spec::specs::Calls::open_to_change, spec::specs::Calls::put_in, spec::specs::Cursor::seen, spec::specs::Layout::view_shape, spec::specs::Layout::detail_of), using(spec::specs::Follow::goes, spec::specs::Follow::stops))]
 pub fn put_detail(
     d: &DetailSet,
     area: &mut [u16],
@@ -45,7 +47,7 @@ pub fn put_detail(
     if entry.len() != d.shape.entry as usize {
         return Err(Refusal::WrongLength);
     }
-    let l = put_line(d, area, entry)?;
+    let l = put_line(d, area, &Entry { words: entry })?;
     let passed = l.passed;
     let links = saved_links(area, d.shape, c.path, l.at);
     Ok(Good {
@@ -58,25 +60,25 @@ pub fn put_detail(
     })
 }
 
-// Whether the entry in hand has the search and the sort item of path p as record r has them.
-fn keeps_path(d: &DetailSet, area: &[u16], p: u16, r: u32, entry: &[u16]) -> bool
-    requires { (1 ≤ p) × (p ≤ path_count d.now.root.now.words.now d.now.number) × (1 ≤ r) }
-    ensures { result ≡ (keeps d.now.shape area.now r entry.now (path_of d.now.root.now.words.now d.now.number p).search && keeps d.now.shape area.now r entry.now (path_of d.now.root.now.words.now d.now.number p).sort) }
+// Whether the entry in hand has the search and the sort item of a path as record r has them.
+#[tactic(auto, unfolding(spec::specs::Layout::path_of), using(crate::proofs::Laws::no_sort, crate::proofs::Laws::sort_is))]
+fn keeps_path(path: &SetPath, area: &[u16], r: u32, entry: &[u16]) -> bool
+    ensures { result ≡ (keeps path.now.set.now.shape area.now r entry.now (path_of path.now.set.now.root.now.words.now path.now.set.now.number path.now.number).search && keeps path.now.set.now.shape area.now r entry.now (path_of path.now.set.now.root.now.words.now path.now.set.now.number path.now.number).sort) }
 {
-    let kept = keeps(area, d.shape, r, entry, d.search_of(p));
-    match d.sort_of(p) {
-        Some(sort) => kept && keeps(area, d.shape, r, entry, sort),
+    let kept = keeps(area, path.set.shape, r, entry, path.search());
+    match path.sort() {
+        Some(sort) => kept && keeps(area, path.set.shape, r, entry, sort),
         None => kept,
     }
 }
 
 // 41 asks it of every path.
+#[tactic(auto, unfolding(spec::specs::Calls::keeps_paths), using(crate::proofs::Laws::kept_next, crate::proofs::Laws::kept_not))]
 fn keeps_paths(d: &DetailSet, area: &[u16], r: u32, entry: &[u16]) -> bool
-    requires { 1 ≤ r }
     ensures { result ≡ keeps_paths (detail_of d.now.root.now.words.now d.now.number) area.now r entry.now (path_count d.now.root.now.words.now d.now.number) }
 {
     for i in 0..d.path_count() {
-        if !keeps_path(d, area, i + 1, r, entry) {
+        if !keeps_path(&(&*d).path(i + 1), area, r, entry) {
             return false;
         }
     }
@@ -84,6 +86,7 @@ fn keeps_paths(d: &DetailSet, area: &[u16], r: u32, entry: &[u16]) -> bool
 }
 
 // −95, 17, 41, then the update.
+#[tactic(auto, unfolding(spec::specs::Calls::update_on, spec::specs::Calls::open_to_change, spec::specs::Calls::keeps_all, spec::specs::Layout::view_shape, spec::specs::Layout::detail_of, master_calls::specs::Answers::rewritten), using(spec::specs::Follow::goes, spec::specs::Follow::stops))]
 pub fn update_detail(
     d: &DetailSet,
     area: &mut [u16],
@@ -100,17 +103,18 @@ pub fn update_detail(
     if !keeps_paths(d, area, r, entry) {
         return Err(Refusal::KeyChanged);
     }
-    write_over(area, d.shape, r, entry);
+    write_over(area, d.shape, r, &Entry { words: entry });
     Ok(changed(d.shape.entry, c))
 }
 
 // 17, then the delete.
+#[tactic(auto, unfolding(spec::specs::Calls::delete_on, spec::specs::Calls::open_to_change, spec::specs::Calls::delete_in, spec::specs::Layout::view_shape, spec::specs::Layout::detail_of, master_calls::specs::Answers::rewritten), using(spec::specs::Follow::goes, spec::specs::Follow::stops))]
 pub fn delete_detail(d: &DetailSet, area: &mut [u16], c: Cursor) -> Result<Good, Refusal>
     requires { c.current ≤ 65535 }
     ensures is { done_out result area.new [] ≡ delete_on (a_detail (detail_of d.now.root.now.words.now d.now.number)) area.old c }
     ensures kept { IfErr result (λ _. area.new ≡ area.old) }
 {
     let r = current_record(area, d.shape, c)?;
-    delete_line(d, area, r)?;
+    delete_line(d, area, r as u16)?;
     Ok(changed(0, c))
 }

@@ -12,6 +12,7 @@ use session::{Answer, Session, answer_of, refused_status};
 use words::lay;
 
 // "Making a base takes only root and area and answers the status."
+#[tactic(auto, unfolding(spec::specs::Calls::make, spec::specs::Calls::made), using(layout::specs::Known::known_by_length))]
 pub fn make(root: &[u16], area: &mut [u16]) -> [u16; 10]
     ensures status { result ≡ (make root.now area.old).status }
     ensures area { area.new ≡ (make root.now area.old).area }
@@ -26,6 +27,7 @@ pub fn make(root: &[u16], area: &mut [u16]) -> [u16; 10]
     }
 }
 
+#[tactic(auto, unfolding(spec::specs::Calls::find, spec::specs::Calls::answer))]
 pub fn find(
     root: &[u16],
     area: &[u16],
@@ -43,6 +45,7 @@ pub fn find(
 }
 
 // "A get buffer keeps every word after the entry."
+#[tactic(auto, unfolding(spec::specs::Calls::get, spec::specs::Calls::answer))]
 pub fn get(
     root: &[u16],
     area: &[u16],
@@ -67,6 +70,7 @@ pub fn get(
     }
 }
 
+#[tactic(auto, unfolding(spec::specs::Calls::put, spec::specs::Calls::answer))]
 pub fn put(root: &[u16], area: &mut [u16], session: Session, set: u16, entry: &[u16]) -> Answer
     ensures status { result.status ≡ (put root.now area.old session.cursors set entry.now).status }
     ensures cursors { result.session.cursors ≡ (put root.now area.old session.cursors set entry.now).cursors }
@@ -77,6 +81,7 @@ pub fn put(root: &[u16], area: &mut [u16], session: Session, set: u16, entry: &[
     answer_of(put, session, set)
 }
 
+#[tactic(auto, unfolding(spec::specs::Calls::update, spec::specs::Calls::answer))]
 pub fn update(root: &[u16], area: &mut [u16], session: Session, set: u16, entry: &[u16]) -> Answer
     ensures status { result.status ≡ (update root.now area.old session.cursors set entry.now).status }
     ensures cursors { result.session.cursors ≡ (update root.now area.old session.cursors set entry.now).cursors }
@@ -87,6 +92,7 @@ pub fn update(root: &[u16], area: &mut [u16], session: Session, set: u16, entry:
     answer_of(updated, session, set)
 }
 
+#[tactic(auto, unfolding(spec::specs::Calls::delete, spec::specs::Calls::answer))]
 pub fn delete(root: &[u16], area: &mut [u16], session: Session, set: u16) -> Answer
     ensures status { result.status ≡ (delete root.now area.old session.cursors set).status }
     ensures cursors { result.session.cursors ≡ (delete root.now area.old session.cursors set).cursors }

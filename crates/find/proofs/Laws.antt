@@ -15,14 +15,14 @@ use Rattle.spec.specs.Follow.{goes, stops, taken, other}
 use Rattle.find.specs.Answers.{Full}
 
 -- ---- the number of a key's words
-module _ (by v i : ℕ) (key : List ℕ) (e : key_number by 0 key ≡ key_number by v (drop i key)) where
-  pub number_turn : (x : ℕ) → i < length key → x ≡ (by * v + get_or key i 0) % 2 ^ 31 → key_number by 0 key ≡ key_number by x (drop (i + 1) key)
+module _ (by v i : ℕ) (key : List ℕ) where
+  pub number_turn : i < length key → key_number by v (drop i key) ≡ key_number by ((by * v + get_or key i 0) % 2 ^ 31) (drop (i + 1) key)
   unfolding key_number
-  number_turn x h q = e ∙ rw (q, add-one, drop-cons key i 0)
+  number_turn h = rw (add-one, drop-cons key i 0) refl
 
-  pub number_end : length key ≤ i → v ≡ key_number by 0 key
+  pub number_end : length key ≤ i → key_number by v (drop i key) ≡ v
   unfolding key_number
-  number_end h = sym (e ∙ rw (drop_of_length-le key h))
+  number_end h = rw (drop_of_length-le key h) refl
 
 -- ---- along the synonym chain: what n records from r on give
 module _ (m : Master) (a key : List ℕ) where
@@ -31,62 +31,46 @@ module _ (m : Master) (a key : List ℕ) where
   along_end zero r e = taken _ _ (eq-eqb r 0 e) refl
   along_end (suc n) r e = taken _ _ (eq-eqb r 0 e) refl
 
-  along_long : (n r : ℕ) → n ≡ 0 → (r ≡ 0 → ⊥) → find_along m a key n r ≡ refuse Broken
-  unfolding find_along
-  along_long n r z e = rw z (other _ _ (ne_eqb r 0 e) refl)
+-- the rest of the loop: c of n records were passed, and the next is at
+module _ (m : Master) (a key : List ℕ) (n c at : ℕ) where
+  pub walk_end : at ≡ 0 → find_along m a key (n - c) at ≡ accept 0
+  walk_end e = along_end m a key (n - c) at e
 
-  module _ (n k r : ℕ) (z : n ≡ suc k) (e : r ≡ 0 → ⊥) where
-    along_lost : (why : Refusal) → follow m.shape a r ≡ refuse why → find_along m a key n r ≡ refuse why
+  module _ (e : at ≡ 0 → ⊥) where
+    pub walk_long : n ≤ c → find_along m a key (n - c) at ≡ refuse Broken
     unfolding find_along
-    along_lost why f = rw z (other _ _ (ne_eqb r 0 e) (stops _ f))
+    walk_long h = let z : n - c ≡ 0 = omega arith in rw z (other _ _ (ne_eqb at 0 e) refl)
 
-    module _ (f : follow m.shape a r ≡ accept tt) where
-      along_here : same (key_at m a r) key ≡ true → find_along m a key n r ≡ accept r
+    module _ (h : c < n) where
+      left : n - c ≡ suc (n - (c + 1))
+      left = omega arith
+
+      pub walk_lost : (why : Refusal) → refuse why ≡ follow m.shape a at → find_along m a key (n - c) at ≡ refuse why
       unfolding find_along
-      along_here t = rw z (other _ _ (ne_eqb r 0 e) (goes _ f (taken _ _ t refl)))
+      walk_lost why f = rw left (other _ _ (ne_eqb at 0 e) (stops _ (sym f)))
 
-      along_torn : (why : Refusal) → same (key_at m a r) key ≡ false → synonyms m.shape a r ≡ refuse why → find_along m a key n r ≡ refuse why
-      unfolding find_along
-      along_torn why t x = rw z (other _ _ (ne_eqb r 0 e) (goes _ f (other _ _ t (stops _ x))))
+      module _ (f : accept tt ≡ follow m.shape a at) (d : Bool) (v : d ≡ same (key_at m a at) key) where
+        pub walk_here : d ≡ true → find_along m a key (n - c) at ≡ accept at
+        unfolding find_along
+        walk_here w = rw left (other _ _ (ne_eqb at 0 e) (goes _ (sym f) (taken _ _ (sym v ∙ w) refl)))
 
-      along_next :
-          (y : Head) → same (key_at m a r) key ≡ false → synonyms m.shape a r ≡ accept y → find_along m a key n r ≡ find_along m a key k y.fore
-      unfolding find_along
-      along_next y t x = rw z (other _ _ (ne_eqb r 0 e) (goes _ f (other _ _ t (goes _ x refl))))
+        module _ (w : d ≡ false) where
+          pub walk_torn : (why : Refusal) → refuse why ≡ synonyms m.shape a at → find_along m a key (n - c) at ≡ refuse why
+          unfolding find_along
+          walk_torn why t = rw left (other _ _ (ne_eqb at 0 e) (goes _ (sym f) (other _ _ (sym v ∙ w) (stops _ (sym t)))))
 
--- the loop: c of n records were passed, and the rest from at on give what all from r on give
-module _ (m : Master) (a key : List ℕ) (n r c at : ℕ) (i : find_along m a key n r ≡ find_along m a key (n - c) at) where
-  pub walk_end : at ≡ 0 → accept 0 ≡ find_along m a key n r
-  walk_end e = sym (i ∙ along_end m a key (n - c) at e)
-
-  pub walk_long : n ≤ c → (at ≡ 0 → ⊥) → refuse Broken ≡ find_along m a key n r
-  walk_long h e = sym (i ∙ along_long m a key (n - c) at (omega arith) e)
-
-  module _ (h : c < n) (e : at ≡ 0 → ⊥) where
-    left : n - c ≡ suc (n - (c + 1))
-    left = omega arith
-
-    pub walk_lost : (why : Refusal) → refuse why ≡ follow m.shape a at → refuse why ≡ find_along m a key n r
-    walk_lost why f = sym (i ∙ along_lost m a key (n - c) _ at left e why (sym f))
-
-    module _ (f : accept tt ≡ follow m.shape a at) (d : Bool) (v : d ≡ same (key_at m a at) key) where
-      pub walk_here : d ≡ true → accept at ≡ find_along m a key n r
-      walk_here w = sym (i ∙ along_here m a key (n - c) _ at left e (sym f) (sym v ∙ w))
-
-      pub walk_torn : (why : Refusal) → d ≡ false → refuse why ≡ synonyms m.shape a at → refuse why ≡ find_along m a key n r
-      walk_torn why w t = sym (i ∙ along_torn m a key (n - c) _ at left e (sym f) why (sym v ∙ w) (sym t))
-
-      pub walk_next : (y : Head) → d ≡ false → accept y ≡ synonyms m.shape a at → find_along m a key n r ≡ find_along m a key (n - (c + 1)) y.fore
-      walk_next y w t = i ∙ along_next m a key (n - c) _ at left e (sym f) y (sym v ∙ w) (sym t)
+          pub walk_next : (y : Head) → accept y ≡ synonyms m.shape a at → find_along m a key (n - c) at ≡ find_along m a key (n - (c + 1)) y.fore
+          unfolding find_along
+          walk_next y t = rw left (other _ _ (ne_eqb at 0 e) (goes _ (sym f) (other _ _ (sym v ∙ w) (goes _ (sym t) refl))))
 
 -- ---- the first unused record
 module _ (s : Shape) (a : List ℕ) where
-  unused_here : (n r : ℕ) → (n ≡ 0 → ⊥) → live s a r ≡ false → unused_from s a n r ≡ r
+  pub unused_here : (n r : ℕ) → (n ≡ 0 → ⊥) → live s a r ≡ false → unused_from s a n r ≡ r
   unfolding unused_from
   unused_here zero r z e = absurd (z refl)
   unused_here (suc n) r z e = other _ _ e refl
 
-  unused_next : (n r : ℕ) → (n ≡ 0 → ⊥) → live s a r ≡ true → unused_from s a n r ≡ unused_from s a (n - 1) (next_up s.cap r)
+  pub unused_next : (n r : ℕ) → (n ≡ 0 → ⊥) → live s a r ≡ true → unused_from s a n r ≡ unused_from s a (n - 1) (next_up s.cap r)
   unfolding unused_from
   unused_next zero r z e = absurd (z refl)
   unused_next (suc n) r z e = taken _ _ e (rw sub-one refl)
@@ -105,25 +89,14 @@ module _ (s : Shape) (a : List ℕ) where
       ∙ unused_next (n - suc k) (r + suc k) (λ z. omega arith) (l (suc k) (omega arith))
       ∙ ap (λ m. unused_from s a m (next_up s.cap (r + suc k))) d
 
-module _ (s : Shape) (a : List ℕ) (n r left at : ℕ) (i : unused_from s a n r ≡ unused_from s a left at) where
-  pub up_word :
-      (b : Bool) (x : ℕ) → (b ≡ true → Full s a left at) → b ≡ true → x ≡ next_up s.cap (at + 15) →
-      unused_from s a n r ≡ unused_from s a (left - 16) x
-  up_word b x f u q =
-      let w : Full s a left at = f u in
-      let h : 16 ≤ left = w.many in
-      rw q (i ∙ unused_run s a 15 left at (omega arith) w.within (λ j l. w.alike.all j (omega arith)))
-
-  pub up_none : left ≡ 0 → 0 ≡ unused_from s a n r
+  pub unused_none : (n r : ℕ) → n ≡ 0 → unused_from s a n r ≡ 0
   unfolding unused_from
-  up_none z = sym (i ∙ rw z refl)
+  unused_none n r z = rw z refl
 
-  module _ (z : left ≡ 0 → ⊥) (b : Bool) (l : b ≡ live s a at) where
-    pub up_here : b ≡ false → at ≡ unused_from s a n r
-    up_here u = sym (i ∙ unused_here s a left at z (sym l ∙ u))
-
-    pub up_next : (x : ℕ) → b ≡ true → x ≡ next_up s.cap at → unused_from s a n r ≡ unused_from s a (left - 1) x
-    up_next x u q = rw q (i ∙ unused_next s a left at z (sym l ∙ u))
+  pub unused_word : (n r : ℕ) → Full s a n r → unused_from s a n r ≡ unused_from s a (n - 16) (next_up s.cap (r + 15))
+  unused_word n r w =
+      let h : 16 ≤ n = w.many in
+      unused_run 15 n r (omega arith) w.within (λ j l. w.alike.all j (omega arith))
 
 -- ---- the heads, one by one
 module _ (s : Shape) (a : List ℕ) (r : ℕ) where
@@ -134,18 +107,18 @@ module _ (s : Shape) (a : List ℕ) (r : ℕ) where
   unfolding no_lines
   heads_step caps j h = ap (λ (l : List ℕ). no_lines s a r l j) (drop-cons caps j 0 h)
 
-  module _ (caps : List ℕ) (j : ℕ) (i : no_lines s a r caps 0 ≡ no_lines s a r (drop j caps) j) where
-    pub heads_end : length caps ≤ j → accept true ≡ no_lines s a r caps 0
+  module _ (caps : List ℕ) (j : ℕ) where
+    pub heads_end : length caps ≤ j → no_lines s a r (drop j caps) j ≡ accept true
     unfolding no_lines
-    heads_end h = sym (i ∙ rw (drop_of_length-le caps h))
+    heads_end h = rw (drop_of_length-le caps h) refl
 
     module _ (h : j < length caps) where
-      pub heads_torn : (why : Refusal) → refuse why ≡ read_head (get_or caps j 0) s a r (5 + 5 * j) → refuse why ≡ no_lines s a r caps 0
-      heads_torn why t = sym (i ∙ heads_step caps j h ∙ stops _ (sym t))
+      pub heads_torn : (why : Refusal) → refuse why ≡ read_head (get_or caps j 0) s a r (5 + 5 * j) → no_lines s a r (drop j caps) j ≡ refuse why
+      heads_torn why t = heads_step caps j h ∙ stops _ (sym t)
 
       module _ (y : Head) (t : accept y ≡ read_head (get_or caps j 0) s a r (5 + 5 * j)) where
-        pub heads_some : (y.count ≡ 0 → ⊥) → accept false ≡ no_lines s a r caps 0
-        heads_some c = sym (i ∙ heads_step caps j h ∙ goes _ (sym t) (other _ _ (ne_eqb y.count 0 c) refl))
+        pub heads_some : (y.count ≡ 0 → ⊥) → no_lines s a r (drop j caps) j ≡ accept false
+        heads_some c = heads_step caps j h ∙ goes _ (sym t) (other _ _ (ne_eqb y.count 0 c) refl)
 
-        pub heads_next : y.count ≡ 0 → no_lines s a r caps 0 ≡ no_lines s a r (drop (j + 1) caps) (j + 1)
-        heads_next c = i ∙ heads_step caps j h ∙ goes _ (sym t) (taken _ _ (eq-eqb y.count 0 c) (rw add-one refl))
+        pub heads_next : y.count ≡ 0 → no_lines s a r (drop j caps) j ≡ no_lines s a r (drop (j + 1) caps) (j + 1)
+        heads_next c = heads_step caps j h ∙ goes _ (sym t) (taken _ _ (eq-eqb y.count 0 c) (rw add-one refl))

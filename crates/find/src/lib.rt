@@ -8,6 +8,7 @@ ghost use Rattle.spec.specs.Master.{key_number, address, key_at, primary_of, fin
 ghost use Rattle.find.specs.Answers.{Full};
 
 use area::{follow, live, read_head, synonyms, value_at, word_alike};
+use sound::SoundMaster;
 use spec::{Head, Lowered, Master, Refusal, Shape};
 use words::same;
 
@@ -40,19 +41,17 @@ fn base(text: bool) -> u32
 
 // "((v + C − 1) mod C) + 1"
 #[tactic(auto, unfolding(spec::specs::Master::address, spec::specs::Master::address_in), using(crate::specs::FindLaws::wrapped_high))]
-pub fn address(m: Master, key: &[u16]) -> u32
-    requires { 1 ≤ m.shape.cap }
+pub fn address(m: SoundMaster, key: &[u16]) -> u32
     ensures is { result ≡ address m key.now }
     ensures within { (1 ≤ result) × (result ≤ m.shape.cap) }
 {
-    let v = number_by(base(m.text), key);
-    let c = m.shape.cap as u32;
+    let v = number_by(base(m.plain.text), key);
+    let c = m.plain.shape.cap as u32;
     (v + c - 1) % c + 1
 }
 
 #[tactic(auto, unfolding(spec::specs::Master::key_at))]
 pub fn key_at(area: &[u16], m: Master, r: u32) -> &[u16]
-    requires { 1 ≤ r }
     ensures { result.now ≡ key_at m area.now r }
 {
     value_at(area, m.shape, m.key, r)
@@ -60,7 +59,6 @@ pub fn key_at(area: &[u16], m: Master, r: u32) -> &[u16]
 
 // Whether the entry in record r has the key.
 fn has_key(area: &[u16], m: Master, r: u32, key: &[u16]) -> bool
-    requires { 1 ≤ r }
     ensures { result ≡ same (key_at m area.now r) key.now }
 {
     same(key_at(area, m, r), key)
@@ -68,21 +66,20 @@ fn has_key(area: &[u16], m: Master, r: u32, key: &[u16]) -> bool
 
 // "a secondary's primary is found from its key; that address counts as a link"
 #[tactic(auto, unfolding(spec::specs::Master::primary_of), using(spec::specs::Follow::goes, spec::specs::Follow::stops))]
-fn primary_of(area: &[u16], m: Master, r: u32) -> Result<u32, Refusal>
-    requires { (1 ≤ r) × (1 ≤ m.shape.cap) }
+fn primary_of(area: &[u16], m: SoundMaster, r: u32) -> Result<u32, Refusal>
     ensures is { result ≡ primary_of m area.now r }
     ensures found { IfOk result (λ p. 1 ≤ p) }
 {
-    let p = address(m, key_at(area, m, r));
+    let p = address(m, key_at(area, m.plain, r));
     if p == r {
         return Err(Refusal::Broken);
     }
-    follow(area, m.shape, p)?;
+    follow(area, m.plain.shape, p)?;
     Ok(p)
 }
 
 // Along the synonym chain from record r on, at most n records; 0 where none has the key.
-#[tactic(auto, using(crate::proofs::Laws::walk_end, crate::proofs::Laws::walk_long, crate::proofs::Laws::walk_lost, crate::proofs::Laws::walk_here, crate::proofs::Laws::walk_torn, crate::proofs::Laws::walk_next))]
+#[tactic(auto, using(crate::proofs::Laws::walk_end, crate::proofs::Laws::walk_long, crate::proofs::Laws::walk_here, crate::proofs::Laws::walk_next))]
 fn find_along(area: &[u16], m: Master, key: &[u16], n: u16, r: u32) -> Result<u32, Refusal>
     ensures { result ≡ find_along m area.now key.now n r }
 {
@@ -101,29 +98,27 @@ fn find_along(area: &[u16], m: Master, key: &[u16], n: u16, r: u32) -> Result<u3
 }
 
 #[tactic(auto, unfolding(spec::specs::Master::find_primary), using(spec::specs::Follow::goes, spec::specs::Follow::stops))]
-fn find_primary(area: &[u16], m: Master, key: &[u16], h: u32) -> Result<u32, Refusal>
-    requires { (1 ≤ h) × (1 ≤ m.shape.cap) }
+fn find_primary(area: &[u16], m: SoundMaster, key: &[u16], h: u32) -> Result<u32, Refusal>
     ensures { result ≡ find_primary m area.now key.now h }
 {
-    let y = synonyms(area, m.shape, h)?;
+    let y = synonyms(area, m.plain.shape, h)?;
     if y.count == 0 {
         Ok(0)
-    } else if has_key(area, m, h, key) {
+    } else if has_key(area, m.plain, h, key) {
         Ok(h)
     } else {
-        find_along(area, m, key, m.shape.cap - 1, y.fore)
+        find_along(area, m.plain, key, m.plain.shape.cap - 1, y.fore)
     }
 }
 
 // "Find: look at the primary address; unused, or held by a secondary, means absent; otherwise compare along the synonym chain."
 // The record that has the key, 0 where none has (its clause's definition has it so).
 #[tactic(auto, unfolding(spec::specs::Master::find_key))]
-pub fn find_key(area: &[u16], m: Master, key: &[u16]) -> Result<u32, Refusal>
-    requires { 1 ≤ m.shape.cap }
+pub fn find_key(area: &[u16], m: SoundMaster, key: &[u16]) -> Result<u32, Refusal>
     ensures { result ≡ find_key m area.now key.now }
 {
     let h = address(m, key);
-    if live(area, m.shape, h) {
+    if live(area, m.plain.shape, h) {
         find_primary(area, m, key, h)
     } else {
         Ok(0)
@@ -139,7 +134,6 @@ fn next_up(cap: u16, r: u32) -> u32
 
 // Whether the n records from r on begin with a word of the map, all of them within the capacity and live.
 fn word_full(area: &[u16], s: Shape, n: u16, r: u32) -> bool
-    requires { 1 ≤ r }
     ensures { result ≡ true → Full s area.now n r }
 {
     if n < 16 {
@@ -154,9 +148,8 @@ fn word_full(area: &[u16], s: Shape, n: u16, r: u32) -> bool
 // "the first unused record going up from h, wrapping past C to 1"; 0 where none of n is unused (the definition has it so). A full
 // word of the map is passed at once: a nearly full master has long runs of them. (A while loop: its steps are of 1 and of 16
 // records.)
-#[tactic(auto, using(crate::proofs::Laws::up_word, crate::proofs::Laws::up_none, crate::proofs::Laws::up_here, crate::proofs::Laws::up_next))]
+#[tactic(auto, using(crate::proofs::Laws::unused_word, crate::proofs::Laws::unused_none, crate::proofs::Laws::unused_here, crate::proofs::Laws::unused_next))]
 pub fn unused_from(area: &[u16], s: Shape, n: u16, r: u32) -> u32
-    requires { 1 ≤ r }
     ensures { result ≡ unused_from s area.now n r }
 {
     let mut left = n;
@@ -177,19 +170,17 @@ pub fn unused_from(area: &[u16], s: Shape, n: u16, r: u32) -> u32
 
 // "and, if its last changes, primary"
 #[tactic(auto, unfolding(spec::specs::Master::last_primary), using(spec::specs::Follow::goes, spec::specs::Follow::stops))]
-fn last_primary(area: &[u16], m: Master, h: u32) -> Result<u32, Refusal>
-    requires { (1 ≤ h) × (1 ≤ m.shape.cap) }
+fn last_primary(area: &[u16], m: SoundMaster, h: u32) -> Result<u32, Refusal>
     ensures { result ≡ last_primary m area.now h }
 {
     let p = primary_of(area, m, h)?;
-    synonyms(area, m.shape, p)?;
+    synonyms(area, m.plain.shape, p)?;
     Ok(p)
 }
 
 // The record whose link back names the one at h: its next, or its primary.
 #[tactic(auto, unfolding(spec::specs::Master::named_by))]
-pub fn named_by(area: &[u16], m: Master, h: u32, y: Head) -> Result<u32, Refusal>
-    requires { (1 ≤ h) × (1 ≤ m.shape.cap) }
+pub fn named_by(area: &[u16], m: SoundMaster, h: u32, y: Head) -> Result<u32, Refusal>
     ensures { result ≡ named_by m area.now h y }
 {
     if y.fore == 0 {
@@ -200,9 +191,9 @@ pub fn named_by(area: &[u16], m: Master, h: u32, y: Head) -> Result<u32, Refusal
 }
 
 // "Heads are read one by one, and a delete stops reading them at the first count that isn't 0": whether all are 0.
-#[tactic(auto, using(crate::proofs::Laws::heads_end, crate::proofs::Laws::heads_torn, crate::proofs::Laws::heads_some, crate::proofs::Laws::heads_next))]
+#[tactic(auto, using(crate::proofs::Laws::heads_end, crate::proofs::Laws::heads_some))]
 pub fn no_lines(area: &[u16], s: Shape, r: u32, heads: &[u16]) -> Result<bool, Refusal>
-    requires { (1 ≤ r) × (length heads.now ≤ 8) }
+    requires { length heads.now ≤ 8 }
     ensures { result ≡ no_lines s area.now r heads.now 0 }
 {
     for (j, cap) in heads.iter().enumerate() {
@@ -215,13 +206,12 @@ pub fn no_lines(area: &[u16], s: Shape, r: u32, heads: &[u16]) -> Result<bool, R
 
 // The primary of the secondary r, found from its key and read whole; its count is lowered and so is not 0.
 #[tactic(auto, unfolding(spec::specs::Master::lowered), using(spec::specs::Follow::goes, spec::specs::Follow::stops))]
-pub fn lowered(area: &[u16], m: Master, r: u32) -> Result<Lowered, Refusal>
-    requires { (1 ≤ r) × (1 ≤ m.shape.cap) }
+pub fn lowered(area: &[u16], m: SoundMaster, r: u32) -> Result<Lowered, Refusal>
     ensures is { result ≡ lowered m area.now r }
     ensures found { IfOk result (λ q. 1 ≤ q.at) }
 {
     let at = primary_of(area, m, r)?;
-    let z = synonyms(area, m.shape, at)?;
+    let z = synonyms(area, m.plain.shape, at)?;
     if z.count == 0 {
         return Err(Refusal::Broken);
     }

@@ -6,12 +6,15 @@ ghost use Rattle.std.specs.Prelude.{◌≡◌, ◌∷◌, [], ◌+◌, ◌-◌, 
 ghost use Rattle.std.proofs.lemmas.List.Edits.{sets};
 ghost use Rattle.spec.specs.Words.{long_words};
 
-use words::{high, lay, low, part, put_word, word};
+use sound::{Entry, Place};
+use words::{high, lay, lay_zeros, low, part, put_word, word};
 
-// What a call overwrites, in a lent room: for each word its place and what stood there, as one number. A journal that has no
-// room left takes no more, and then can't be rewound (a call that refuses before it writes lends an empty room).
+// The area that a call writes as if on a copy, and what the call overwrote, in a lent room: for each word its place and what stood
+// there, as one number. A journal that has no room left takes no more, and then can't be rewound (a call that refuses before it
+// writes lends an empty room).
 #[derive(Drop)]
 pub struct Journal<'a> {
+    area: &'a mut [u16],
     room: &'a mut [u64],
     count: usize,
     ghost within: { count ≤ length room.now },
@@ -21,11 +24,24 @@ impl<'a> Journal<'a> {
     ghost use Rattle.journal.specs.Journal.{rewound, written, Noted, Back, Kept};
 
     // A journal with nothing put down yet.
-    pub fn over(room: &'a mut [u64]) -> Journal<'a>
+    pub fn over(area: &'a mut [u16], room: &'a mut [u64]) -> Journal<'a>
+        ensures lent { result.area.ghost_name ≡ area.entry.ghost_name }
+        ensures area { result.area.now ≡ area.old }
         ensures empty { result.count ≡ 0 }
         ensures room { result.room.now ≡ room.old }
     {
-        Journal { room, count: 0 }
+        Journal {
+            area,
+            room,
+            count: 0,
+        }
+    }
+
+    // The area as the call has written it so far.
+    pub fn area(&self) -> &[u16]
+        ensures { result.now ≡ self.now.area.now }
+    {
+        self.area
     }
 
     // One entry: a place and the word that stands there.
@@ -40,85 +56,80 @@ impl<'a> Journal<'a> {
     }
 
     // A word is replaced.
-    #[tactic(auto, using(crate::proofs::Laws::stored))]
-    pub fn store(&mut self, area: &mut [u16], i: usize, v: u16)
-        requires { i < 2 ^ 48 }
-        ensures is { area.new ≡ set area.old i v }
-        ensures back { Back area.old self.old 1 area.new self.new }
+    #[tactic(auto, using(crate::proofs::Laws::set_there))]
+    pub fn store(&mut self, p: Place, v: u16)
+        ensures is { self.new.area.now ≡ set self.old.area.now p v }
+        ensures back { Back self.old 1 self.new }
     {
-        let old = word(area, i);
-        self.note(i, old);
-        put_word(area, i, v);
+        let old = word(self.area(), p.at);
+        self.note(p.at, old);
+        put_word(self.area, p.at, v);
     }
 
     // A two-word number is replaced.
-    #[tactic(auto, using(crate::proofs::Laws::stored_long, crate::specs::BackLaws::back_two))]
-    pub fn store_long(&mut self, area: &mut [u16], i: usize, v: u32)
-        requires { i + 1 < 2 ^ 48 }
-        ensures is { area.new ≡ sets area.old i (long_words v) }
-        ensures back { Back area.old self.old 2 area.new self.new }
+    #[tactic(auto, using(crate::proofs::Laws::stored_long))]
+    pub fn store_long(&mut self, p: Place, v: u32)
+        ensures is { self.new.area.now ≡ sets self.old.area.now p (long_words v) }
+        ensures back { Back self.old 2 self.new }
     {
-        self.store(area, i, high(v));
-        self.store(area, i + 1, low(v));
+        self.keep(p.at, 2);
+        put_word(self.area, p.at, high(v));
+        put_word(self.area, p.at + 1, low(v));
     }
 
     // The len words from a place on are put down, before that part is lent to be written.
     #[tactic(auto, using(crate::proofs::Laws::keep_none, crate::proofs::Laws::keep_more, crate::proofs::Laws::kept))]
-    fn keep(&mut self, area: &[u16], at: usize, len: usize)
+    fn keep(&mut self, at: usize, len: usize)
         requires { at + len < 2 ^ 48 }
-        ensures { Kept area.now self.old at len self.new }
+        ensures { Kept self.old at len self.new }
     {
         for i in at..at + len {
-            self.note(i, word(area, i));
+            let stood = word(self.area(), i);
+            self.note(i, stood);
         }
     }
 
-    // A run of words is laid over those from a place on.
-    #[tactic(auto, using(crate::proofs::Laws::stored_run))]
-    pub fn store_run(&mut self, area: &mut [u16], at: usize, vs: &[u16])
-        requires { at + length vs.now < 2 ^ 48 }
-        ensures is { area.new ≡ sets area.old at vs.now }
-        ensures back { Back area.old self.old (length vs.now) area.new self.new }
+    // An entry's words are laid over those from a place on.
+    pub fn store_run(&mut self, p: Place, vs: &Entry)
+        ensures is { self.new.area.now ≡ sets self.old.area.now p vs.now }
+        ensures back { Back self.old (length vs.now) self.new }
     {
-        self.keep(area, at, vs.len());
-        lay(area, at, vs);
+        self.keep(p.at, vs.words.len());
+        lay(self.area, p.at, vs.words);
     }
 
     // The len words from a place on become 0.
-    #[tactic(auto, using(crate::proofs::Laws::zeros_start, crate::proofs::Laws::zeros_turn, crate::proofs::Laws::zeros_end, crate::proofs::Laws::zeros_back))]
-    pub fn store_zeros(&mut self, area: &mut [u16], at: usize, len: usize)
-        requires { at + len < 2 ^ 48 }
-        ensures is { area.new ≡ sets area.old at (replicate len 0) }
-        ensures back { Back area.old self.old len area.new self.new }
+    pub fn store_zeros(&mut self, p: Place, len: u16)
+        ensures is { self.new.area.now ≡ sets self.old.area.now p (replicate len 0) }
+        ensures back { Back self.old len self.new }
     {
-        self.keep(area, at, len);
-        for i in at..at + len {
-            put_word(area, i, 0);
-        }
+        self.keep(p.at, len as usize);
+        lay_zeros(self.area, p.at, len as usize);
     }
 
     // The words of a run are laid over those from another place on. The longest record has 557 words: five synonym words, eight
     // heads, and sixteen items of 32 words.
-    pub fn store_moved(&mut self, area: &mut [u16], from: usize, to: usize, len: usize)
-        requires { (len ≤ 557) × (to + len < 2 ^ 48) }
-        ensures is { area.new ≡ sets area.old to (take len (drop from area.old)) }
-        ensures back { Back area.old self.old len area.new self.new }
+    pub fn store_moved(&mut self, from: usize, to: Place, len: u16)
+        requires { len ≤ 557 }
+        ensures is { self.new.area.now ≡ sets self.old.area.now to (take len (drop from self.old.area.now)) }
+        ensures back { Back self.old len self.new }
     {
         let mut room = [0u16; 557];
-        let run = part(area, from, len);
+        let run = part(self.area(), from, len as usize);
         let taken = &mut room[..run.len()];
         taken.copy_from_slice(run);
-        self.store_run(area, to, taken);
+        self.store_run(to, &Entry { words: taken });
     }
 
     // The area as it was before the stores that the journal has.
     #[tactic(auto, using(crate::proofs::Laws::rewind_end, crate::proofs::Laws::rewind_turn))]
-    pub fn rewind(&self, area: &mut [u16])
-        ensures { area.new ≡ rewound (written self.now) area.old }
+    pub fn rewind(&mut self)
+        ensures lent { self.new.area.ghost_name ≡ self.old.area.ghost_name }
+        ensures is { self.new.area.now ≡ rewound (written self.old) self.old.area.now }
     {
         for k in (0..self.count).rev() {
             let e = self.room[k];
-            put_word(area, (e / 65536) as usize, (e % 65536) as u16);
+            put_word(self.area, (e / 65536) as usize, (e % 65536) as u16);
         }
     }
 }

@@ -1,16 +1,13 @@
 -- What is known of a good root's numbers. Assumes nothing.
-use Rattle.std.specs.Prelude.{ℕ, ◌≡◌, ◌≤◌, ◌<◌, ◌+◌, ◌*◌, ◌-◌, ◌/◌, true, false, List, length, Bool, ◌&&◌, ◌||◌, eqb, refl}
+use Rattle.std.specs.Prelude.{ℕ, ◌≡◌, ◌≤◌, ◌<◌, ◌+◌, ◌*◌, ◌-◌, ◌/◌, true, List, length, eqb, refl}
 use Rattle.std.proofs.Common.{arith, eqb-true}
-use Rattle.spec.specs.Root.{items, sets, item_type, item_length, item_good, is_text, kind, capacity, item_count, key_item, path_count, set_item, path_master, path_search, path_sort, leading, leading_from, has_item, root_length, root_good}
-use Rattle.spec.specs.Words.{latest, within}
+use Rattle.std.proofs.lemmas.Bool.Decides.{nat_tests}
+use Rattle.spec.specs.Root.{items, sets, item_type, item_length, item_good, kind, capacity, item_count, key_item, path_count, set_item, path_master, path_search, path_sort, leading, leading_from, has_item, root_length, root_good}
+use Rattle.spec.specs.Words.{latest}
 use Rattle.spec.specs.Layout.{entry_length, item_number, front_words, record_words, start_of, size_of, area_length}
-use Rattle.root.specs.Good.{root_facts, within_facts, Kinds, a_detail, a_master, kind_of, few_paths, leads_few, key_listed, item_found, item_of, PathFacts, path_of_set, sort_listed, head_number_fits}
-use Rattle.root.specs.Ranges.{Latest, and_left}
+use Rattle.root.specs.Good.{root_facts, set_of, kind_of, few_paths, leads_few, key_listed, item_found, item_of, PathFacts, path_of_set, sort_listed, head_number_fits}
+use Rattle.root.specs.Ranges.{Latest}
 use Rattle.root.specs.Sizes.{entry_fits, front_fits, size_fits, start_fits, area_fits, front_detail, front_master}
-
-or_cases : (P : Type 0) (a b : Bool) → a || b ≡ true → (a ≡ true → P) → (b ≡ true → P) → P
-or_cases P true b e f g = f refl
-or_cases P false b e f g = g e
 
 module _ (root : List ℕ) (good : root_good root ≡ true) where
   pub sets_few : sets root ≤ 16
@@ -31,16 +28,7 @@ module _ (root : List ℕ) (good : root_good root ≡ true) where
   module _ (i : ℕ) (low : 1 ≤ i) (high : i ≤ items root) where
     types : (1 ≤ item_type root i) × (item_type root i ≤ 3)
     unfolding item_good
-    types =
-        or_cases ((1 ≤ item_type root i) × (item_type root i ≤ 3)) (within 1 2 (item_type root i) && within 1 2 (item_length root i))
-        (is_text (item_type root i) && within 1 32 (item_length root i)) ((root_facts root good).item i low high)
-        (λ e.
-        let w : (1 ≤ item_type root i) × (item_type root i ≤ 2) =
-        within_facts 1 2 (item_type root i) (and_left (within 1 2 (item_type root i)) (within 1 2 (item_length root i)) e) in
-        (w.0, omega arith))
-        (λ e.
-        let w : item_type root i ≡ 3 = eqb-true (item_type root i) 3 (and_left (is_text (item_type root i)) (within 1 32 (item_length root i)) e) in
-        (omega arith, omega arith))
+    types = grind (arith, nat_tests, (root_facts root good).item i low high)
 
     pub type_low : 1 ≤ item_type root i
     type_low = types.0
@@ -61,19 +49,17 @@ module _ (root : List ℕ) (good : root_good root ≡ true) where
     pub size_small : size_of root s ≤ 2281173
     size_small = size_fits root good s low high
 
+    pub cap_low : 1 ≤ capacity root s
+    cap_low = (set_of root good s low high).capacity_low
+
+    pub cap_high : capacity root s ≤ 4095
+    cap_high = (set_of root good s low high).capacity_high
+
     pub kind_low : 1 ≤ kind root s
-    kind_low = go (kind_of root good s low high)
-      where
-        go : Kinds root s → 1 ≤ kind root s
-        go (a_detail k z l) = omega arith
-        go (a_master a b z h) = a
+    kind_low = grind (arith, kind_of root good s low high)
 
     pub kind_high : kind root s ≤ 3
-    kind_high = go (kind_of root good s low high)
-      where
-        go : Kinds root s → kind root s ≤ 3
-        go (a_detail k z l) = omega arith
-        go (a_master a b z h) = omega arith
+    kind_high = grind (arith, kind_of root good s low high)
 
     pub front_links : kind root s ≡ 3 → front_words root s ≡ 4 * path_count root s
     front_links = front_detail root good s low high
@@ -112,6 +98,9 @@ module _ (root : List ℕ) (good : root_good root ≡ true) where
 
       pub search_there : has_item root s (path_search root s p) ≡ true
       search_there = facts.search
+
+      pub search_size : item_length root (path_search root s p) ≡ item_length root (key_item root (path_master root s p))
+      search_size = facts.size
 
       pub sort_there : (path_sort root s p ≡ 0 → ⊥) → has_item root s (path_sort root s p) ≡ true
       sort_there = sort_listed root s p facts.sort

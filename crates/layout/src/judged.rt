@@ -23,41 +23,47 @@ struct Judged<'a> {
     ghost counted: { Counted root.words.now counts } by { Prim.hlevel props },
 }
 
-// "kind (1 manual master, 2 automatic master, 3 detail)"; a good root has no other.
-pub fn kind_of(root: Stated, s: u16) -> Kind
-    requires good { root_good root.words.now ≡ true }
-    requires there { (1 ≤ s) × (s ≤ sets root.words.now) }
-    ensures { kind_code result ≡ kind root.entry.words.now s }
-{
-    match Kind::try_from(root::kind(root, s)) {
-        Ok(kind) => kind,
-        Err(_) => unreachable!(),
-    }
+// A set of a root that keeps its rules, by its number: what its words say.
+#[derive(Clone, Copy)]
+pub struct RuledSet<'a> {
+    pub root: Stated<'a>,
+    pub number: u16,
+    pub ghost good: { root_good root.words.now ≡ true },
+    pub ghost there: { (1 ≤ number) × (number ≤ sets root.words.now) },
 }
 
-// "type (1 = I signed, 2 = K unsigned, 3 = X characters)"; an item of a good root has no other.
-pub fn type_of(root: Stated, item: u16) -> ItemType
-    requires good { root_good root.words.now ≡ true }
-    requires there { (1 ≤ item) × (item ≤ items root.words.now) }
-    ensures { type_code result ≡ item_type root.entry.words.now item }
-{
-    match ItemType::try_from(root::item_type(root, item)) {
-        Ok(item_type) => item_type,
-        Err(_) => unreachable!(),
+impl<'a> RuledSet<'a> {
+    // "kind (1 manual master, 2 automatic master, 3 detail)"; a good root has no other.
+    pub fn kind(&self) -> Kind
+        ensures { kind_code result ≡ kind self.now.root.words.now self.now.number }
+    {
+        match Kind::try_from(root::kind(self.root, self.number)) {
+            Ok(kind) => kind,
+            Err(_) => unreachable!(),
+        }
     }
-}
 
-// "Detail record: for each path a backward and a forward link"; "Master record: five synonym words; five words of chain head
-// for each path leading here"
-pub fn front_words(root: Stated, s: u16, lead: u16) -> u16
-    requires good { root_good root.words.now ≡ true }
-    requires there { (1 ≤ s) × (s ≤ sets root.words.now) }
-    requires lead_value { lead ≡ leading root.words.now s (sets root.words.now) }
-    ensures { result ≡ front_words root.entry.words.now s }
-{
-    match kind_of(root, s) {
-        Kind::Detail => 4 * root::path_count(root, s),
-        _ => 5 + 5 * lead,
+    // "type (1 = I signed, 2 = K unsigned, 3 = X characters)"; an item of a good root has no other.
+    pub fn type_of(&self, item: u16) -> ItemType
+        requires { (1 ≤ item) × (item ≤ items self.now.root.words.now) }
+        ensures { type_code result ≡ item_type self.now.root.words.now item }
+    {
+        match ItemType::try_from(root::item_type(self.root, item)) {
+            Ok(item_type) => item_type,
+            Err(_) => unreachable!(),
+        }
+    }
+
+    // "Detail record: for each path a backward and a forward link"; "Master record: five synonym words; five words of chain head
+    // for each path leading here"
+    pub fn front_words(&self, lead: u16) -> u16
+        requires { lead ≡ leading self.now.root.words.now self.now.number (sets self.now.root.words.now) }
+        ensures { result ≡ front_words self.now.root.words.now self.now.number }
+    {
+        match self.kind() {
+            Kind::Detail => 4 * root::path_count(self.root, self.number),
+            _ => 5 + 5 * lead,
+        }
     }
 }
 
@@ -69,11 +75,16 @@ impl<'a> Judged<'a> {
     {
         let k = s as usize - 1;
         let cap = root::capacity(self.root, s) as u32;
-        let width = front_words(self.root, s, self.counts.leads[k]) + self.counts.entries[k];
+        let set = RuledSet {
+            root: self.root,
+            number: s,
+        };
+        let width = set.front_words(self.counts.leads[k]) + self.counts.entries[k];
         2 + (cap + 15) / 16 + cap * width as u32
     }
 
     // "Sets follow one another.": the start of each.
+    #[tactic(auto, unfolding(root::specs::Plan::Starts), using(crate::proofs::Good::good_root, crate::proofs::Starts::start_first, crate::proofs::Starts::start_more))]
     fn starts(&self) -> [u32; 16]
         ensures { Starts self.now.root.words.now result }
     {
@@ -88,6 +99,7 @@ impl<'a> Judged<'a> {
 }
 
 // −91: the root, if it keeps its rules.
+#[tactic(auto, unfolding(root::specs::Plan::Leads, root::specs::Plan::Slots, root::specs::Plan::Entries, root::specs::Plan::Starts), using(crate::proofs::Good::good_root))]
 pub fn ruled<'a>(words: &'a [u16]) -> Option<Root<'a>>
     ensures good { is_some result ≡ root_good words.now }
     ensures words { IfSome result (λ root. root.words.now ≡ words.now) }
@@ -110,6 +122,7 @@ pub fn ruled<'a>(words: &'a [u16]) -> Option<Root<'a>>
 }
 
 // −91, −92: the root, if it keeps its rules and the area is as long as it means.
+#[tactic(auto, unfolding(crate::specs::Known::known_by))]
 pub fn known<'a>(words: &'a [u16], area: usize) -> Result<Root<'a>, Refusal>
     ensures words { IfOk result (λ root. root.words.now ≡ words.now) }
     ensures is { known_out result ≡ known_by words.now area }

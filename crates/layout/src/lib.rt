@@ -5,4 +5,4 @@ mod judged;
 mod sets;
 
 pub use judged::{known, ruled};
-pub use sets::{DetailSet, MasterSet, Root};
+pub use sets::{DetailSet, MasterSet, Root, Set, SetPath};

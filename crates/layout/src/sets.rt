@@ -10,9 +10,10 @@ ghost use Rattle.layout.specs.Views.{Shaped, Mastered, Sorted, Pathed};
 ghost use Rattle.std.proofs.Props.{props};
 ghost use Rattle.arrayvec.specs.ArrayVec.{array_vec_len};
 
-use crate::judged::{front_words, kind_of, type_of};
+use crate::judged::RuledSet;
 use arrayvec::ArrayVec;
 use root::{ItemType, Kind, Plan, Stated};
+use sound::{SoundMaster, SoundPath};
 use spec::{Field, Master, Path, Shape};
 
 // A root that keeps its rules, with what is counted from it once.
@@ -21,6 +22,14 @@ pub struct Root<'a> {
     pub words: &'a [u16],
     pub plan: Plan,
     pub ghost planned: { Planned words.now plan } by { Prim.hlevel props },
+}
+
+// A set of a good root, by its number.
+#[derive(Drop)]
+pub struct Set<'a> {
+    pub root: &'a Root<'a>,
+    pub number: u16,
+    pub ghost there: { (1 ≤ number) × (number ≤ sets root.now.words.now) },
 }
 
 // A master set of a good root, by its number.
@@ -45,132 +54,39 @@ pub struct DetailSet<'a> {
     pub ghost shaped: { Shaped root.now.words.now number shape } by { Prim.hlevel props },
 }
 
+// A path of a detail set, by its number.
+#[derive(Drop)]
+pub struct SetPath<'a> {
+    pub set: &'a DetailSet<'a>,
+    pub number: u16,
+    pub ghost there: { (1 ≤ number) × (number ≤ path_count set.now.root.now.words.now set.now.number) },
+    pub ghost few: { number ≤ 4 },
+}
+
 impl<'a> Root<'a> {
-    // "kind (1 manual master, 2 automatic master, 3 detail)"
-    pub fn kind_of(&self, s: u16) -> Kind
-        requires { (1 ≤ s) × (s ≤ sets self.now.words.now) }
-        ensures { kind_code result ≡ kind self.now.words.now s }
+    // The set with a number, if there is one.
+    pub fn set(&'a self, number: u16) -> Option<Set<'a>>
+        ensures some { IfSome result (λ set. (set.root.now ≡ self.now) × (set.number ≡ number) × (1 ≤ number) × (number ≤ sets self.now.words.now)) }
+        ensures none { IfNone result ((1 ≤ number) × (number ≤ sets self.now.words.now) → ⊥) }
     {
-        kind_of(Stated { words: self.words }, s)
-    }
-
-    // How many paths lead to set s.
-    fn lead_of(&self, s: u16) -> u16
-        requires { (1 ≤ s) × (s ≤ sets self.now.words.now) }
-        ensures { result ≡ leading self.now.words.now s (sets self.now.words.now) }
-    {
-        self.plan.leads[s as usize - 1]
-    }
-
-    // Where set s stands.
-    pub fn shape_of(&self, s: u16) -> Shape
-        requires { (1 ≤ s) × (s ≤ sets self.now.words.now) }
-        ensures { Shaped self.now.words.now s result }
-    {
-        let root = Stated { words: self.words };
-        let start = self.plan.starts[s as usize - 1];
-        let cap = root::capacity(root, s);
-        let front = front_words(root, s, self.lead_of(s));
-        let entry = self.plan.entries[s as usize - 1];
-        Shape {
-            start,
-            map: start + 2,
-            records: start + 2 + (cap as u32 + 15) / 16,
-            cap,
-            width: front + entry,
-            front,
-            entry,
+        if number == 0 || root::sets(self.words) < number {
+            return None;
         }
+        Some(Set { root: self, number })
     }
 
     // The words of the area that it means: "Sets follow one another.", so it ends with the last.
+    #[tactic(auto, using(crate::proofs::Good::good_root, crate::proofs::Starts::area_ends, crate::proofs::Starts::area_word))]
     pub fn area_length(&self) -> u32
         ensures { result ≡ area_length self.now.words.now }
     {
-        let last = self.shape_of(root::sets(Stated { words: self.words }));
+        let number = root::sets(Stated { words: self.words });
+        let last = Set { root: self, number }.shape();
         last.records + last.cap as u32 * last.width as u32
     }
 
-    // The place of an item of set s in the entry: behind the items before it. Items differ, so the first that is found is the
-    // only one.
-    pub fn field_of(&self, s: u16, item: u16) -> Field
-        requires there { (1 ≤ s) × (s ≤ sets self.now.words.now) }
-        requires item { has_item self.now.words.now s item ≡ true }
-        ensures value { result ≡ field_of self.now.words.now s item }
-        ensures size_bound { result.at + result.size ≤ entry_length self.now.words.now s }
-    {
-        let root = Stated { words: self.words };
-        let mut at = 0;
-        for j in 1..=16 {
-            let x = root::set_item(root, s, j);
-            let size = root::item_length(root, x);
-            if x == item {
-                return Field { at, size };
-            }
-            at += size;
-        }
-        unreachable!()
-    }
-
-    // Master set m: any set that is no detail.
-    pub fn master_of(&self, m: u16) -> Master
-        requires there { (1 ≤ m) × (m ≤ sets self.now.words.now) }
-        requires no_detail { kind self.now.words.now m ≡ 3 → ⊥ }
-        ensures { Mastered self.now.words.now m result }
-    {
-        let root = Stated { words: self.words };
-        let item = root::key_item(root, m);
-        Master {
-            shape: self.shape_of(m),
-            auto: self.kind_of(m) == Kind::Automatic,
-            text: type_of(root, item) == ItemType::Text,
-            key: self.field_of(m, item),
-            leads: self.lead_of(m),
-        }
-    }
-
-    // Where the head of path p of set s stands in a record of its master.
-    #[tactic(auto, using(crate::proofs::Good::good_root), unfolding(spec::specs::Layout::head_of))]
-    fn head_of(&self, s: u16, p: u16) -> u16
-        requires there { (1 ≤ s) × (s ≤ sets self.now.words.now) }
-        requires path { (1 ≤ p) × (p ≤ path_count self.now.words.now s) }
-        ensures { result ≡ head_of self.now.words.now s p }
-    {
-        5 + 5 * self.plan.slots[4 * (s as usize - 1) + (p as usize - 1)]
-    }
-
-    // "sort item (0: none)"
-    fn sort_of(&self, s: u16, p: u16) -> Option<Field>
-        requires there { (1 ≤ s) × (s ≤ sets self.now.words.now) }
-        requires path { (1 ≤ p) × (p ≤ path_count self.now.words.now s) }
-        ensures { Sorted self.now.words.now s p result }
-    {
-        let root = Stated { words: self.words };
-        match root::path_sort(root, s, p) {
-            0 => None,
-            item => Some(self.field_of(s, item)),
-        }
-    }
-
-    // Path p of set s.
-    pub fn path_of(&self, s: u16, p: u16) -> Path
-        requires there { (1 ≤ s) × (s ≤ sets self.now.words.now) }
-        requires path { (1 ≤ p) × (p ≤ path_count self.now.words.now s) }
-        ensures { Pathed self.now.words.now s p result }
-    {
-        let root = Stated { words: self.words };
-        let sort = self.sort_of(s, p);
-        Path {
-            to: self.master_of(root::path_master(root, s, p)),
-            head: self.head_of(s, p),
-            links: 4 * (p - 1),
-            search: self.field_of(s, root::path_search(root, s, p)),
-            sorted: sort.is_some(),
-            sort: sort.unwrap_or(Field { at: 0, size: 0 }),
-        }
-    }
-
     // The capacities that the heads of master m are held against, "by detail set number, then path number".
+    #[tactic(auto, unfolding(spec::specs::Layout::heads_of), using(crate::proofs::Good::good_root, crate::proofs::Heads::headed))]
     pub fn heads_of(&self, m: u16) -> ArrayVec<u16, 8>
         ensures caps { result.items ≡ heads_of self.now.words.now m }
         ensures bound { array_vec_len result ≤ 8 }
@@ -187,37 +103,138 @@ impl<'a> Root<'a> {
         }
         caps
     }
+}
 
-    // Master set s, worked out once.
-    pub fn master_set(&'a self, s: u16) -> MasterSet<'a>
-        requires there { (1 ≤ s) × (s ≤ sets self.now.words.now) }
-        requires no_detail { kind self.now.words.now s ≡ 3 → ⊥ }
-        ensures root { result.root.now ≡ self.now }
-        ensures number { result.number ≡ s }
+impl<'a> Set<'a> {
+    // "kind (1 manual master, 2 automatic master, 3 detail)"
+    pub fn kind(&self) -> Kind
+        ensures { kind_code result ≡ kind self.now.root.now.words.now self.now.number }
     {
-        MasterSet {
-            root: self,
-            number: s,
-            master: self.master_of(s),
+        let ruled = RuledSet {
+            root: Stated {
+                words: self.root.words,
+            },
+            number: self.number,
+        };
+        ruled.kind()
+    }
+
+    // How many paths lead to it.
+    fn lead(&self) -> u16
+        ensures { result ≡ leading self.now.root.now.words.now self.now.number (sets self.now.root.now.words.now) }
+    {
+        self.root.plan.leads[self.number as usize - 1]
+    }
+
+    // Where it stands.
+    #[tactic(auto, unfolding(spec::specs::Layout::shape_of, spec::specs::Layout::record_words), using(crate::proofs::Good::good_root, crate::proofs::Good::cap_low, crate::proofs::Good::cap_high, root::specs::Sizes::record_fits))]
+    pub fn shape(&self) -> Shape
+        ensures { Shaped self.now.root.now.words.now self.now.number result }
+    {
+        let root = Stated {
+            words: self.root.words,
+        };
+        let start = self.root.plan.starts[self.number as usize - 1];
+        let ruled = RuledSet {
+            root,
+            number: self.number,
+        };
+        let cap = root::capacity(root, self.number);
+        let front = ruled.front_words(self.lead());
+        let entry = self.root.plan.entries[self.number as usize - 1];
+        Shape {
+            start,
+            map: start + 2,
+            records: start + 2 + (cap as u32 + 15) / 16,
+            cap,
+            width: front + entry,
+            front,
+            entry,
         }
     }
 
-    // Detail set s, worked out once.
-    pub fn detail_set(&'a self, s: u16) -> DetailSet<'a>
-        requires there { (1 ≤ s) × (s ≤ sets self.now.words.now) }
-        requires detail { kind self.now.words.now s ≡ 3 }
-        ensures root { result.root.now ≡ self.now }
-        ensures number { result.number ≡ s }
+    // The place of one of its items in the entry: behind the items before it. Items differ, so the first that is found is the
+    // only one.
+    #[tactic(auto, unfolding(spec::specs::Layout::field_of), using(crate::proofs::Good::good_root, root::specs::Sizes::items_fit, root::specs::Sizes::field_inside, root::specs::Good::item_of, crate::proofs::ViewRules::number_low, crate::proofs::ViewRules::number_high, crate::proofs::ViewRules::number_few, crate::proofs::ViewRules::number_past, crate::proofs::ViewRules::number_only, crate::proofs::ViewRules::item_short, crate::proofs::ViewRules::items_none, crate::proofs::ViewRules::items_more))]
+    fn field_of(&self, item: u16) -> Field
+        requires { has_item self.now.root.now.words.now self.now.number item ≡ true }
+        ensures value { result ≡ field_of self.now.root.now.words.now self.now.number item }
+        ensures size_bound { result.at + result.size ≤ entry_length self.now.root.now.words.now self.now.number }
     {
+        let root = Stated {
+            words: self.root.words,
+        };
+        let mut at = 0;
+        for j in 1..=16 {
+            let x = root::set_item(root, self.number, j);
+            let size = root::item_length(root, x);
+            if x == item {
+                return Field { at, size };
+            }
+            at += size;
+        }
+        unreachable!()
+    }
+
+    // Any set that is no detail is a master.
+    #[tactic(auto, unfolding(spec::specs::Layout::master_of, spec::specs::Layout::shape_of), using(crate::proofs::Good::good_root, root::specs::Sizes::entry_alone))]
+    fn master_of(&self) -> Master
+        requires { kind self.now.root.now.words.now self.now.number ≡ 3 → ⊥ }
+        ensures { Mastered self.now.root.now.words.now self.now.number result }
+    {
+        let root = Stated {
+            words: self.root.words,
+        };
+        let ruled = RuledSet {
+            root,
+            number: self.number,
+        };
+        let item = root::key_item(root, self.number);
+        Master {
+            shape: self.shape(),
+            auto: self.kind() == Kind::Automatic,
+            text: ruled.type_of(item) == ItemType::Text,
+            key: self.field_of(item),
+            leads: self.lead(),
+        }
+    }
+
+    // As a master set, worked out once.
+    pub fn master(&self) -> MasterSet<'a>
+        requires { kind self.now.root.now.words.now self.now.number ≡ 3 → ⊥ }
+        ensures root { result.root.now ≡ self.now.root.now }
+        ensures number { result.number ≡ self.now.number }
+    {
+        MasterSet {
+            root: self.root,
+            number: self.number,
+            master: self.master_of(),
+        }
+    }
+
+    // As a detail set, worked out once.
+    pub fn detail(&self) -> DetailSet<'a>
+        requires { kind self.now.root.now.words.now self.now.number ≡ 3 }
+        ensures root { result.root.now ≡ self.now.root.now }
+        ensures number { result.number ≡ self.now.number }
+    {
+        let shape = self.shape();
         DetailSet {
-            root: self,
-            number: s,
-            shape: self.shape_of(s),
+            root: self.root,
+            number: self.number,
+            shape,
         }
     }
 }
 
 impl<'a> MasterSet<'a> {
+    // What its steps are handed.
+    pub fn sound(&self) -> SoundMaster
+        ensures { result ≡ self.now.master }
+    {
+        SoundMaster { plain: self.master }
+    }
+
     // The capacities that its heads are held against.
     pub fn heads(&self) -> ArrayVec<u16, 8>
         ensures caps { result.items ≡ heads_of self.now.root.now.words.now self.now.number }
@@ -239,64 +256,133 @@ impl<'a> DetailSet<'a> {
         root::path_count(root, self.number)
     }
 
-    // Its path p.
-    pub fn path(&self, p: u16) -> Path
-        requires { (1 ≤ p) × (p ≤ path_count self.now.root.now.words.now self.now.number) }
-        ensures { Pathed self.now.root.now.words.now self.now.number p result }
+    // Its path i.
+    pub fn path(&'a self, i: u16) -> SetPath<'a>
+        requires { (1 ≤ i) × (i ≤ path_count self.now.root.now.words.now self.now.number) }
+        ensures set { result.set.now ≡ self.now }
+        ensures number { result.number ≡ i }
     {
-        self.root.path_of(self.number, p)
-    }
-
-    // The number of the master that path p leads to.
-    pub fn path_master(&self, p: u16) -> u16
-        requires { (1 ≤ p) × (p ≤ path_count self.now.root.now.words.now self.now.number) }
-        ensures { result ≡ path_master self.now.root.now.words.now self.now.number p }
-    {
-        let root = Stated {
-            words: self.root.words,
-        };
-        root::path_master(root, self.number, p)
-    }
-
-    // The capacities that the heads of the master of path p are held against.
-    pub fn heads(&self, p: u16) -> ArrayVec<u16, 8>
-        requires { (1 ≤ p) × (p ≤ path_count self.now.root.now.words.now self.now.number) }
-        ensures caps { result.items ≡ heads_of self.now.root.now.words.now (path_master self.now.root.now.words.now self.now.number p) }
-        ensures bound { array_vec_len result ≤ 8 }
-    {
-        self.root.heads_of(self.path_master(p))
-    }
-
-    // Where the search item of path p stands in the entry.
-    pub fn search_of(&self, p: u16) -> Field
-        requires { (1 ≤ p) × (p ≤ path_count self.now.root.now.words.now self.now.number) }
-        ensures value { result ≡ field_of self.now.root.now.words.now self.now.number (path_search self.now.root.now.words.now self.now.number p) }
-        ensures inside { result.at + result.size ≤ self.now.shape.entry }
-    {
-        let root = Stated {
-            words: self.root.words,
-        };
-        self.root
-            .field_of(self.number, root::path_search(root, self.number, p))
-    }
-
-    // Where the sort item of path p stands in the entry, if the path is sorted.
-    pub fn sort_of(&self, p: u16) -> Option<Field>
-        requires { (1 ≤ p) × (p ≤ path_count self.now.root.now.words.now self.now.number) }
-        ensures { Sorted self.now.root.now.words.now self.now.number p result }
-    {
-        self.root.sort_of(self.number, p)
+        SetPath {
+            set: self,
+            number: i,
+        }
     }
 
     // The path whose search item is this one, if there is one.
-    pub fn search_path(&self, item: u16) -> Option<u16>
-        ensures some { IfSome result (λ p. (p ≡ search_path self.now.root.now.words.now self.now.number item) × (1 ≤ p) × (p ≤ path_count self.now.root.now.words.now self.now.number)) }
+    #[tactic(auto, using(crate::proofs::Good::good_root, crate::proofs::ViewRules::search_high))]
+    pub fn search_path(&'a self, item: u16) -> Option<SetPath<'a>>
+        ensures some { IfSome result (λ path. (path.set.now ≡ self.now) × (path.number ≡ search_path self.now.root.now.words.now self.now.number item)) }
         ensures none { IfNone result (search_path self.now.root.now.words.now self.now.number item ≡ 0) }
     {
         let root = Stated {
             words: self.root.words,
         };
         let p = root::search_path(root, self.number, item);
-        if p == 0 { None } else { Some(p) }
+        if p == 0 {
+            return None;
+        }
+        Some(SetPath {
+            set: self,
+            number: p,
+        })
+    }
+
+    // Where one of its items stands in the entry.
+    fn field_of(&self, item: u16) -> Field
+        requires { has_item self.now.root.now.words.now self.now.number item ≡ true }
+        ensures value { result ≡ field_of self.now.root.now.words.now self.now.number item }
+        ensures size_bound { result.at + result.size ≤ entry_length self.now.root.now.words.now self.now.number }
+    {
+        let set = Set {
+            root: self.root,
+            number: self.number,
+        };
+        set.field_of(item)
+    }
+}
+
+impl<'a> SetPath<'a> {
+    // The number of the master that it leads to.
+    fn master_number(&self) -> u16
+        ensures { result ≡ path_master self.now.set.now.root.now.words.now self.now.set.now.number self.now.number }
+    {
+        let root = Stated {
+            words: self.set.root.words,
+        };
+        root::path_master(root, self.set.number, self.number)
+    }
+
+    // The master that it leads to.
+    fn master(&self) -> Master
+        ensures { Mastered self.now.set.now.root.now.words.now (path_master self.now.set.now.root.now.words.now self.now.set.now.number self.now.number) result }
+    {
+        let set = Set {
+            root: self.set.root,
+            number: self.master_number(),
+        };
+        set.master_of()
+    }
+
+    // The capacities that the heads of its master are held against.
+    pub fn heads(&self) -> ArrayVec<u16, 8>
+        ensures caps { result.items ≡ heads_of self.now.set.now.root.now.words.now (path_master self.now.set.now.root.now.words.now self.now.set.now.number self.now.number) }
+        ensures bound { array_vec_len result ≤ 8 }
+    {
+        self.set.root.heads_of(self.master_number())
+    }
+
+    // Where its head stands in a record of its master.
+    #[tactic(auto, using(crate::proofs::Good::good_root), unfolding(spec::specs::Layout::head_of))]
+    fn head(&self) -> u16
+        ensures { result ≡ head_of self.now.set.now.root.now.words.now self.now.set.now.number self.now.number }
+    {
+        5 + 5
+            * self.set.root.plan.slots[4 * (self.set.number as usize - 1)
+                + (self.number as usize - 1)]
+    }
+
+    // Where its search item stands in the entry.
+    #[tactic(auto, unfolding(spec::specs::Layout::shape_of), using(crate::proofs::Good::good_root))]
+    pub fn search(&self) -> Field
+        ensures value { result ≡ field_of self.now.set.now.root.now.words.now self.now.set.now.number (path_search self.now.set.now.root.now.words.now self.now.set.now.number self.now.number) }
+        ensures size_bound { result.at + result.size ≤ entry_length self.now.set.now.root.now.words.now self.now.set.now.number }
+        ensures inside { result.at + result.size ≤ self.now.set.now.shape.entry }
+    {
+        let root = Stated {
+            words: self.set.root.words,
+        };
+        self.set
+            .field_of(root::path_search(root, self.set.number, self.number))
+    }
+
+    // "sort item (0: none)": where it stands in the entry.
+    pub fn sort(&self) -> Option<Field>
+        ensures { Sorted self.now.set.now.root.now.words.now self.now.set.now.number self.now.number result }
+    {
+        let root = Stated {
+            words: self.set.root.words,
+        };
+        match root::path_sort(root, self.set.number, self.number) {
+            0 => None,
+            item => Some(self.set.field_of(item)),
+        }
+    }
+
+    // The path as plain numbers.
+    #[tactic(auto, unfolding(spec::specs::Layout::path_of, spec::specs::Layout::master_of, spec::specs::Layout::field_of, spec::specs::Layout::head_of, spec::specs::Layout::sort_of), using(crate::proofs::Good::good_root, crate::proofs::Good::search_size))]
+    pub fn path(&self) -> SoundPath
+        ensures { Pathed self.now.set.now.root.now.words.now self.now.set.now.number self.now.number result }
+    {
+        let sort = self.sort();
+        SoundPath {
+            plain: Path {
+                to: self.master(),
+                head: self.head(),
+                links: 4 * (self.number - 1),
+                search: self.search(),
+                sorted: sort.is_some(),
+                sort: sort.unwrap_or(Field { at: 0, size: 0 }),
+            },
+        }
     }
 }

@@ -80,6 +80,7 @@ impl<'a> Iterator for Words<'a> {
 
     ghost remaining = { λ s. at_most (length s.rest.now) };
 
+    #[tactic(auto, using(crate::proofs::Laws::no_word))]
     fn next(&mut self) -> Option<&'a [u8]> {
         let word = next_word(self.rest, 0);
         let (at, end) = (word.at, word.end);

@@ -2,9 +2,10 @@
 use Rattle.std.proofs.Common.{◌≡◌, ◌≢◌, ℕ, ◌*◌, ◌/◌, ◌≤◌, ◌<◌, Bool, true, false, cond, ◌&&◌, refl, List, [], length, sym, ◌∙◌, ap, arith}
 use borrow.Author.Tests.{eq-eqb, ne_eqb, lt-ltb, le-ltb, le-leb, lt-leb}
 use Rattle.std.proofs.lemmas.Bool.Decides.{nat_tests}
+use Rattle.spec.specs.declared.Cursor.{Cursor}
 use Rattle.spec.specs.Area.{Area}
 use Rattle.spec.specs.Calls.{make, find, get, put, update, delete}
-use Rattle.lent.specs.Lent.{cursors_of, packed, unpacked}
+use Rattle.lent.specs.Lent.{cursors_of, session_words, packed, unpacked}
 use Rattle.maltorhu.specs.Interface.{Left, Turned, made, worked, kept, right, right_passed, make_lent, find_lent, get_lent, put_lent, update_lent, delete_lent, pack_lent, unpack_lent}
 
 -- ---- words of the right lengths
@@ -35,6 +36,12 @@ module _ (root : List ℕ) (a : Area) (cursors : List ℕ) (s item : ℕ) (key s
   unfolding find_lent
   find_untold e = rw e
 
+  -- worked by a set t and an item i, which are those that were asked for
+  pub find_cursors :
+      (cs : List Cursor) (t i : ℕ) (o : List Cursor) (ws : List ℕ) → right cursors status ≡ true → cs ≡ cursors_of cursors → t ≡ s → i ≡ item →
+      o ≡ (find root a cs t i key).cursors → ws ≡ session_words o → ws ≡ (find_lent root a cursors s item key status).cursors
+  find_cursors cs t i o ws e f g h p q = q ∙ ap session_words (rw (f, g, h) at p) ∙ sym (ap (λ (x : Left). x.cursors) (find_told e))
+
 module _ (root : List ℕ) (a : Area) (cursors : List ℕ) (s mode r : ℕ) (key buffer status : List ℕ) where
   pub get_told : right cursors status ≡ true → get_lent root a cursors s mode r key buffer status ≡ worked (get root a (cursors_of cursors) s mode r key buffer)
   unfolding get_lent
@@ -43,6 +50,12 @@ module _ (root : List ℕ) (a : Area) (cursors : List ℕ) (s mode r : ℕ) (key
   pub get_untold : right cursors status ≡ false → get_lent root a cursors s mode r key buffer status ≡ kept a cursors buffer status []
   unfolding get_lent
   get_untold e = rw e
+
+  -- worked by a set t and a mode m, which are those that were asked for
+  pub get_cursors :
+      (cs : List Cursor) (t m : ℕ) (o : List Cursor) (ws : List ℕ) → right cursors status ≡ true → cs ≡ cursors_of cursors → t ≡ s → m ≡ mode →
+      o ≡ (get root a cs t m r key buffer).cursors → ws ≡ session_words o → ws ≡ (get_lent root a cursors s mode r key buffer status).cursors
+  get_cursors cs t m o ws e f g h p q = q ∙ ap session_words (rw (f, g, h) at p) ∙ sym (ap (λ (x : Left). x.cursors) (get_told e))
 
 module _ (root : List ℕ) (a : Area) (cursors : List ℕ) (s : ℕ) (entry status passed : List ℕ) where
   pub put_told : right cursors status ≡ true → length passed ≡ 4 → put_lent root a cursors s entry status passed ≡ worked (put root a (cursors_of cursors) s entry)

@@ -2,7 +2,7 @@
 // was: each step reads before it writes, so no journal is kept (one without room is lent).
 #![tactic(auto)]
 
-ghost use Rattle.std.specs.Prelude.{◌≡◌, [], ◌≤◌, length, IfOk, IfErr};
+ghost use Rattle.std.specs.Prelude.{◌≡◌, [], ◌≤◌, IfOk, IfErr};
 ghost use Rattle.spec.specs.Layout.{a_master, master_of, heads_of};
 ghost use Rattle.spec.specs.Area.{put_entry_at};
 ghost use Rattle.spec.specs.Calls.{put_master as put_whole, put_on, keeps, update_on, delete_master as delete_whole, delete_on};
@@ -18,13 +18,13 @@ use master_delete::remove_entry;
 use master_put::put_entry;
 use named::current_record;
 use session::Good;
+use sound::{Entry, SoundMaster};
 use spec::{Cursor, Field, Links, Master, Refusal, Shape};
 use words::{part, same};
 
 // What is told of the entry in record r, which is new.
 #[tactic(auto, unfolding(crate::specs::Answers::told, spec::specs::Area::synonym_count))]
 fn tell(area: &[u16], m: Master, c: Cursor, r: u32) -> Good
-    requires { 1 ≤ r }
     ensures { result ≡ told m area.now c r }
 {
     let links = Links::default();
@@ -40,19 +40,17 @@ fn tell(area: &[u16], m: Master, c: Cursor, r: u32) -> Good
 
 // 43, then 16: "master put: key present; no unused record".
 #[tactic(auto, unfolding(spec::specs::Calls::put_master), using(spec::specs::Follow::goes, spec::specs::Follow::stops))]
-fn enter(area: &mut [u16], m: Master, entry: &[u16]) -> Result<u32, Refusal>
-    requires { (1 ≤ m.shape.cap) × (m.shape.cap ≤ 4095) × (m.shape.width ≤ 557) × (5 ≤ m.shape.front) × (length entry.now ≤ 65535) }
+fn enter(area: &mut [u16], m: SoundMaster, entry: &Entry) -> Result<u32, Refusal>
     ensures is { line_out result area.new ≡ put_whole m area.old entry.now }
     ensures low { IfOk result (λ r. 1 ≤ r) }
     ensures kept { Unwritten result area.old area.new }
 {
-    let key = part(entry, m.key.at as usize, m.key.size as usize);
-    if find_key(area, m, key)? != 0 {
+    let key = entry.value(m.plain.key);
+    if find_key(area, m, key.words)? != 0 {
         return Err(Refusal::KeyPresent);
     }
     put_entry(
-        area,
-        &mut Journal::over(&mut []),
+        &mut Journal::over(area, &mut []),
         m,
         Refusal::SetFull,
         entry,
@@ -60,7 +58,7 @@ fn enter(area: &mut [u16], m: Master, entry: &[u16]) -> Result<u32, Refusal>
 }
 
 // −24, −95, then the put.
-#[tactic(auto, unfolding(spec::specs::Calls::put_on, spec::specs::Calls::open_to_change, spec::specs::Calls::put_in, spec::specs::Layout::view_shape), using(spec::specs::Follow::goes, spec::specs::Follow::stops, crate::proofs::Laws::put_done))]
+#[tactic(auto, unfolding(spec::specs::Calls::put_on, spec::specs::Calls::open_to_change, spec::specs::Calls::put_in, spec::specs::Layout::view_shape, spec::specs::Cursor::seen, crate::specs::Answers::told), using(spec::specs::Follow::goes, spec::specs::Follow::stops))]
 pub fn put_master(
     m: &MasterSet,
     area: &mut [u16],
@@ -76,14 +74,13 @@ pub fn put_master(
     if entry.len() != m.master.shape.entry as usize {
         return Err(Refusal::WrongLength);
     }
-    let r = enter(area, m.master, entry)?;
+    let r = enter(area, m.sound(), &Entry { words: entry })?;
     Ok(tell(area, m.master, c, r))
 }
 
 // Whether the entry in hand has an item as record r has it.
 #[tactic(auto, unfolding(spec::specs::Calls::keeps))]
 pub fn keeps(area: &[u16], s: Shape, r: u32, entry: &[u16], f: Field) -> bool
-    requires { 1 ≤ r }
     ensures { result ≡ keeps s area.now r entry.now f }
 {
     let stored = value_at(area, s, f, r);
@@ -92,11 +89,10 @@ pub fn keeps(area: &[u16], s: Shape, r: u32, entry: &[u16], f: Field) -> bool
 }
 
 // The entry's words, and no other.
-pub fn write_over(area: &mut [u16], s: Shape, r: u32, entry: &[u16])
-    requires { (1 ≤ r) × (length entry.now ≤ 65535) }
+pub fn write_over(area: &mut [u16], s: Shape, r: u32, entry: &Entry)
     ensures { area.new ≡ put_entry_at s area.old r entry.now }
 {
-    write_entry(area, &mut Journal::over(&mut []), s, r, entry);
+    write_entry(&mut Journal::over(area, &mut []), s, r, entry);
 }
 
 // "After update and delete, words 3 to 10 are 0 (H)"; "Update and delete leave the cursor"
@@ -115,7 +111,7 @@ pub fn changed(size: u16, c: Cursor) -> Good
 }
 
 // −24, −95, 17, 41, then the update.
-#[tactic(auto, unfolding(spec::specs::Calls::update_on, spec::specs::Calls::open_to_change, spec::specs::Calls::keeps_all, spec::specs::Layout::view_shape), using(spec::specs::Follow::goes, spec::specs::Follow::stops, crate::proofs::Laws::current_low, crate::proofs::Laws::length_fits))]
+#[tactic(auto, unfolding(spec::specs::Calls::update_on, spec::specs::Calls::open_to_change, spec::specs::Calls::keeps_all, spec::specs::Layout::view_shape, crate::specs::Answers::rewritten), using(spec::specs::Follow::goes, spec::specs::Follow::stops))]
 pub fn update_master(
     m: &MasterSet,
     area: &mut [u16],
@@ -136,14 +132,13 @@ pub fn update_master(
     if !keeps(area, shape, r, entry, m.master.key) {
         return Err(Refusal::KeyChanged);
     }
-    write_over(area, shape, r, entry);
+    write_over(area, shape, r, &Entry { words: entry });
     Ok(changed(shape.entry, c))
 }
 
 // 44, then the delete of the entry in record r.
 #[tactic(auto, unfolding(spec::specs::Calls::delete_master, spec::specs::Master::without_lines), using(spec::specs::Follow::goes, spec::specs::Follow::stops))]
 fn remove(m: &MasterSet, area: &mut [u16], r: u32) -> Result<(), Refusal>
-    requires { 1 ≤ r }
     ensures is { area_out result area.new ≡ delete_whole m.now.master (heads_of m.now.root.now.words.now m.now.number) area.old r }
     ensures kept { Unwritten result area.old area.new }
 {
@@ -151,11 +146,11 @@ fn remove(m: &MasterSet, area: &mut [u16], r: u32) -> Result<(), Refusal>
     if !no_lines(area, m.master.shape, r, &heads)? {
         return Err(Refusal::HasLines);
     }
-    remove_entry(area, &mut Journal::over(&mut []), m.master, r)
+    remove_entry(&mut Journal::over(area, &mut []), m.sound(), r)
 }
 
 // −24, 17, 44, then the delete.
-#[tactic(auto, unfolding(spec::specs::Calls::delete_on, spec::specs::Calls::open_to_change, spec::specs::Calls::delete_in, spec::specs::Layout::view_shape), using(spec::specs::Follow::goes, spec::specs::Follow::stops, crate::proofs::Laws::current_low, crate::proofs::Laws::delete_done))]
+#[tactic(auto, unfolding(spec::specs::Calls::delete_on, spec::specs::Calls::open_to_change, spec::specs::Calls::delete_in, spec::specs::Layout::view_shape, crate::specs::Answers::rewritten), using(spec::specs::Follow::goes, spec::specs::Follow::stops))]
 pub fn delete_master(m: &MasterSet, area: &mut [u16], c: Cursor) -> Result<Good, Refusal>
     ensures is { done_out result area.new [] ≡ delete_on (a_master (master_of m.now.root.now.words.now m.now.number) (heads_of m.now.root.now.words.now m.now.number)) area.old c }
     ensures kept { IfErr result (λ _. area.new ≡ area.old) }

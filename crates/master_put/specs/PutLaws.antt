@@ -1,14 +1,14 @@
 -- What is known of the answers of a master's writing steps, and of the record that a put takes. Assumes nothing.
 use Prim.Native.Nat.{ℕ, ◌≤◌}
-use Rattle.std.specs.Prelude.{◌≡◌, refl, Bool, true, false, List, ltb, eqb}
-use Rattle.std.proofs.Common.{sym, ◌∙◌, ap, subst, ltb-true}
+use Rattle.std.specs.Prelude.{◌≡◌, refl, Bool, true, false, IfOk, List, ltb, eqb}
+use Rattle.std.proofs.Common.{sym, ltb-true}
 use Rattle.spec.specs.declared.Refusal.{Refusal}
-use Rattle.spec.specs.declared.Refusal.TheVariants.{Broken}
 use Rattle.spec.specs.declared.Head.{Head}
 use Rattle.spec.specs.declared.Master.{Master}
 use Rattle.spec.specs.Outcome.{Outcome, accept, refuse, require}
 use Rattle.spec.specs.Area.{Area, live, follow, synonyms, value}
 use Rattle.spec.specs.Master.{address, Put, unused_from, join, move_away, displace, put_held, put_entry}
+use Rattle.master_put.specs.Answers.{put_out}
 use Rattle.area.specs.AreaLaws.{Then, then_bind, then_told}
 use Rattle.find.specs.FindLaws.{then_if, then_after, address_low, address_high, unused_fits}
 
@@ -32,6 +32,13 @@ module _ (P : ℕ → Type 0) (m : Master) (full : Refusal) (a entry : List ℕ)
   put_then p q =
       let h : ℕ = address m (value m.key entry) in
       then_if _ (live m.shape a h) _ _ (then_after _ (synonyms m.shape a h) _ (λ y. held_then h y _ p q)) p
+
+pub held_low :
+    (m : Master) (full : Refusal) (a entry : List ℕ) (h : ℕ) (y : Head) (f : ℕ) (o : Outcome ℕ) (b : Area) →
+    put_out o b ≡ put_held m full a h y f entry → 1 ≤ h → IfOk o (λ r. 1 ≤ r)
+held_low m full a entry h y f (accept r) b e l =
+    then_told (λ (p : Put). 1 ≤ p.at) _ (record { at = r; area = b }) (held_then (λ x. 1 ≤ x) m full a entry h y f l (λ q. q)) (sym e)
+held_low m full a entry h y f (refuse why) b e l = tt
 
 module _ (m : Master) (full : Refusal) (a entry : List ℕ) (t : Put) (e : put_entry m full a entry ≡ accept t) where
   pub put_low : 1 ≤ t.at

@@ -22,6 +22,7 @@ pub enum Named<'a> {
 }
 
 impl<'a> Named<'a> {
+    #[tactic(auto, using(crate::proofs::Laws::few_sets))]
     fn number(&self) -> u16
         ensures is { result ≡ number_out self.now }
         ensures within { (1 ≤ result) × (result ≤ 16) }
@@ -54,8 +55,8 @@ impl<'a> Named<'a> {
         }
     }
 
-    // −93: its cursor, if it fits.
-    #[tactic(auto, unfolding(spec::specs::Calls::named_cursor, spec::specs::Cursor::cursor_good), using(spec::specs::Follow::goes, spec::specs::Follow::stops, spec::specs::Follow::passes, spec::specs::Follow::fails))]
+    // −93: its cursor, if it fits. (What fits is told by clauses: for a type of its own in a Result beside a set `?` gets no proof.)
+    #[tactic(auto, using(std::proofs::lemmas::Bool::Decides::nat_tests), unfolding(spec::specs::Calls::named_cursor, spec::specs::Cursor::cursor_good))]
     pub fn cursor(&self, session: &Session) -> Result<Cursor, Refusal>
         ensures is { result ≡ named_cursor (view_out self.now) session.now.cursors (number_out self.now) }
         ensures within { IfOk result (λ c. (c.path ≤ 4) × (c.current ≤ 4095)) }
@@ -69,19 +70,19 @@ impl<'a> Named<'a> {
 }
 
 // −21: "no such set"
-#[tactic(auto, using(crate::proofs::Laws::set_zero, crate::proofs::Laws::set_above))]
+#[tactic(auto, using(std::proofs::lemmas::Bool::Decides::nat_tests, crate::proofs::Laws::few_sets), unfolding(crate::specs::Named::set_named, spec::specs::Layout::view_of))]
 pub fn name_set<'a>(root: &'a Root<'a>, set: u16) -> Result<Named<'a>, Refusal>
     ensures is { set_out result ≡ set_named root.now.words.now set }
     ensures root { IfOk result (λ named. root_out named ≡ root.now) }
     ensures number { IfOk result (λ named. number_out named ≡ set) }
     ensures within { IfOk result (λ _. (1 ≤ set) × (set ≤ 16)) }
 {
-    if set == 0 || root::sets(root.words) < set {
+    let Some(named) = root.set(set) else {
         return Err(Refusal::NoSet);
-    }
-    match root.kind_of(set) {
-        Kind::Detail => Ok(Named::Detail(root.detail_set(set))),
-        _ => Ok(Named::Master(root.master_set(set))),
+    };
+    match named.kind() {
+        Kind::Detail => Ok(Named::Detail(named.detail())),
+        _ => Ok(Named::Master(named.master())),
     }
 }
 

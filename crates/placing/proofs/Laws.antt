@@ -39,41 +39,35 @@ module _ (d : Shape) (p : Path) (a v : List ℕ) where
   pass_end zero t e = taken _ _ (eq-eqb t.behind 0 e) refl
   pass_end (suc n) t e = taken _ _ (eq-eqb t.behind 0 e) refl
 
-  pass_long : (n : ℕ) (t : Spot) → n ≡ 0 → (t.behind ≡ 0 → ⊥) → pass d p a v n t ≡ refuse Broken
-  unfolding pass
-  pass_long n t z e = rw z (other _ _ (ne_eqb t.behind 0 e) refl)
+-- the rest of the walk: c of n lines were passed, and it stands at the spot t
+module _ (d : Shape) (p : Path) (a v : List ℕ) (n c : ℕ) (t : Spot) where
+  pub walk_end : t.behind ≡ 0 → pass d p a v (n - c) t ≡ accept t
+  walk_end e = pass_end d p a v (n - c) t e
 
-  pass_step :
-      (n k : ℕ) (t : Spot) → n ≡ suc k → (t.behind ≡ 0 → ⊥) →
-      pass d p a v n t ≡ (looked d p a v t.behind >>= goes_on (λ b. pass d p a v k (record { behind = b; ahead = t.behind; passed = t.passed + 1 })) t)
-  unfolding pass looked
-  pass_step n k t z e =
-      rw z (other _ _ (ne_eqb t.behind 0 e) (same_look (follow d a t.behind) (greater (value_at d p.sort a t.behind) v) (read_links d a t.behind p.links) _ t))
+  module _ (e : t.behind ≡ 0 → ⊥) where
+    pub walk_long : n ≤ c → pass d p a v (n - c) t ≡ refuse Broken
+    unfolding pass
+    walk_long h = let z : n - c ≡ 0 = omega arith in rw z (other _ _ (ne_eqb t.behind 0 e) refl)
 
--- the walk: c of n lines were passed, and from the spot t on it finds what it finds from the spot s
-module _ (d : Shape) (p : Path) (a v : List ℕ) (n c : ℕ) (s t : Spot) (i : pass d p a v n s ≡ pass d p a v (n - c) t) where
-  pub walk_end : t.behind ≡ 0 → accept t ≡ pass d p a v n s
-  walk_end e = sym (i ∙ pass_end d p a v (n - c) t e)
+    module _ (h : c < n) where
+      step : pass d p a v (n - c) t ≡ (looked d p a v t.behind >>= goes_on (λ b. pass d p a v (n - (c + 1)) (record { behind = b; ahead = t.behind; passed = t.passed + 1 })) t)
+      unfolding pass looked
+      step =
+          let z : n - c ≡ suc (n - (c + 1)) = omega arith in
+          rw z (other _ _ (ne_eqb t.behind 0 e) (same_look (follow d a t.behind) (greater (value_at d p.sort a t.behind) v) (read_links d a t.behind p.links) _ t))
 
-  pub walk_long : n ≤ c → (t.behind ≡ 0 → ⊥) → refuse Broken ≡ pass d p a v n s
-  walk_long h e = sym (i ∙ pass_long d p a v (n - c) t (omega arith) e)
+      pub walk_lost : (why : Refusal) → refuse why ≡ looked d p a v t.behind → pass d p a v (n - c) t ≡ refuse why
+      walk_lost why o = step ∙ stops _ (sym o)
 
-  module _ (h : c < n) (e : t.behind ≡ 0 → ⊥) where
-    step : pass d p a v (n - c) t ≡ (looked d p a v t.behind >>= goes_on (λ b. pass d p a v (n - (c + 1)) (record { behind = b; ahead = t.behind; passed = t.passed + 1 })) t)
-    step = pass_step d p a v (n - c) (n - (c + 1)) t (omega arith) e
+      module _ (o : Option ℕ) (g : accept o ≡ looked d p a v t.behind) where
+        pub walk_stands : o ≡ None → pass d p a v (n - c) t ≡ accept t
+        unfolding goes_on
+        walk_stands z = step ∙ goes _ (sym g) (rw z refl)
 
-    pub walk_lost : (why : Refusal) → refuse why ≡ looked d p a v t.behind → refuse why ≡ pass d p a v n s
-    walk_lost why o = sym (i ∙ step ∙ stops _ (sym o))
-
-    pub walk_stands : accept None ≡ looked d p a v t.behind → accept t ≡ pass d p a v n s
-    unfolding goes_on
-    walk_stands o = sym (i ∙ step ∙ goes _ (sym o) refl)
-
-    pub walk_passes :
-        (b : ℕ) → accept (Some b) ≡ looked d p a v t.behind →
-        pass d p a v n s ≡ pass d p a v (n - (c + 1)) (record { behind = b; ahead = t.behind; passed = t.passed + 1 })
-    unfolding goes_on
-    walk_passes b o = i ∙ step ∙ goes _ (sym o) refl
+        pub walk_passes :
+            (b : ℕ) → o ≡ Some b → pass d p a v (n - c) t ≡ pass d p a v (n - (c + 1)) (record { behind = b; ahead = t.behind; passed = t.passed + 1 })
+        unfolding goes_on
+        walk_passes b z = step ∙ goes _ (sym g) (rw z refl)
 
 -- ---- the journal's room for a path's turn
 room_grows : (p : Path) (k : ℕ) → k ≤ p.search.size → (b : Bool) → p.to.auto ≡ b → entry_room p k ≤ entry_room p p.search.size
@@ -81,14 +75,14 @@ unfolding entry_room
 room_grows p k h true t = rw (t, entry_room) (omega arith)
 room_grows p k h false t = rw (t, entry_room) (omega arith)
 
-module _ (p : Path) (entry key a a₁ : List ℕ) (j j₁ : Journal) (e : key ≡ take p.search.size (drop p.search.at entry))
-    (q : Back a j (entry_room p (length key)) a₁ j₁) where
-  pub room_turn : (a₂ : List ℕ) (j₂ : Journal) → Back a₁ j₁ 13 a₂ j₂ → Back a j (path_room p) a₂ j₂
+module _ (p : Path) (entry key : List ℕ) (j j₁ : Journal) (e : key ≡ take p.search.size (drop p.search.at entry))
+    (q : Back j (entry_room p (length key)) j₁) where
+  pub room_turn : (j₂ : Journal) → Back j₁ 13 j₂ → Back j (path_room p) j₂
   unfolding path_room
-  room_turn a₂ j₂ t =
+  room_turn j₂ t =
       let l : length key ≤ p.search.size = rw e (simp length-take (omega arith)) in
       let z : entry_room p (length key) ≤ entry_room p p.search.size = room_grows p (length key) l p.to.auto refl in
       back_more _ (omega arith) (back_then q t)
 
-  pub room_refused : Back a j (path_room p) a₁ j₁
-  room_refused = room_turn a₁ j₁ (back_none a₁ j₁ 13)
+  pub room_refused : Back j (path_room p) j₁
+  room_refused = room_turn j₁ (back_none j₁ 13)

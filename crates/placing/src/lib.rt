@@ -16,8 +16,9 @@ use area::{
 use find::find_key;
 use journal::Journal;
 use master_put::put_entry;
+use sound::{Entry, SoundPath};
 use spec::{Head, Path, Refusal, Shape, Spot, Taken};
-use words::{greater, part};
+use words::greater;
 
 // "Put takes the first freed record"
 #[tactic(auto, unfolding(spec::specs::Detail::take_freed, spec::specs::Area::next_freed), using(spec::specs::Follow::goes, spec::specs::Follow::stops))]
@@ -73,14 +74,13 @@ pub fn take_record(area: &[u16], s: Shape) -> Result<Taken, Refusal>
 
 // "an automatic master gets it if absent" (i is the path's number)
 #[tactic(auto, unfolding(spec::specs::Detail::missing, crate::specs::Answers::entry_room), using(journal::specs::BackLaws::back_none))]
-fn missing(area: &mut [u16], jr: &mut Journal, p: Path, i: u8, key: &[u16]) -> Result<u32, Refusal>
-    requires { (1 ≤ p.to.shape.cap) × (p.to.shape.cap ≤ 4095) × (p.to.shape.width ≤ 557) × (5 ≤ p.to.shape.front) × (length key.now ≤ 65535) }
-    ensures is { put_out result area.new ≡ missing p i area.old key.now }
+fn missing(jr: &mut Journal, p: SoundPath, i: u8, key: &Entry) -> Result<u32, Refusal>
+    ensures is { put_out result jr.new.area.now ≡ missing p i jr.old.area.now key.now }
     ensures low { IfOk result (λ k. 1 ≤ k) }
-    ensures back { Back area.old jr.old (entry_room p (length key.now)) area.new jr.new }
+    ensures back { Back jr.old (entry_room p (length key.now)) jr.new }
 {
-    if p.to.auto {
-        put_entry(area, jr, p.to, Refusal::MasterFull(i), key)
+    if p.plain.to.auto {
+        put_entry(jr, p.to(), Refusal::MasterFull(i), key)
     } else {
         Err(Refusal::NoEntry(i))
     }
@@ -88,21 +88,14 @@ fn missing(area: &mut [u16], jr: &mut Journal, p: Path, i: u8, key: &[u16]) -> R
 
 // "find the master entry"
 #[tactic(auto, unfolding(spec::specs::Detail::master_entry, crate::specs::Answers::entry_room), using(spec::specs::Follow::goes, spec::specs::Follow::stops, journal::specs::BackLaws::back_none))]
-fn master_entry(
-    area: &mut [u16],
-    jr: &mut Journal,
-    p: Path,
-    i: u8,
-    key: &[u16],
-) -> Result<u32, Refusal>
-    requires { (1 ≤ p.to.shape.cap) × (p.to.shape.cap ≤ 4095) × (p.to.shape.width ≤ 557) × (5 ≤ p.to.shape.front) × (length key.now ≤ 65535) }
-    ensures is { put_out result area.new ≡ master_entry p i area.old key.now }
+fn master_entry(jr: &mut Journal, p: SoundPath, i: u8, key: &Entry) -> Result<u32, Refusal>
+    ensures is { put_out result jr.new.area.now ≡ master_entry p i jr.old.area.now key.now }
     ensures low { IfOk result (λ k. 1 ≤ k) }
-    ensures back { Back area.old jr.old (entry_room p (length key.now)) area.new jr.new }
+    ensures back { Back jr.old (entry_room p (length key.now)) jr.new }
 {
-    let k = find_key(area, p.to, key)?;
+    let k = find_key(jr.area(), p.to(), key.words)?;
     if k == 0 {
-        missing(area, jr, p, i, key)
+        missing(jr, p, i, key)
     } else {
         Ok(k)
     }
@@ -111,7 +104,6 @@ fn master_entry(
 // The line behind line r, where r sorts later than v and is passed; none where the new line stands after r.
 #[tactic(auto, unfolding(crate::specs::Answers::looked), using(spec::specs::Follow::goes, spec::specs::Follow::stops))]
 fn look_at(area: &[u16], d: Shape, p: Path, v: &[u16], r: u32) -> Result<Option<u32>, Refusal>
-    requires { (1 ≤ r) × (p.links ≤ 65000) }
     ensures { result ≡ looked d p area.now v.now r }
 {
     follow(area, d, r)?;
@@ -135,9 +127,8 @@ fn last_spot(last: u32) -> Spot
 
 // "Sorted: from the last line backward, pass each line whose sort value is greater than the new one, and stand after the first
 // that isn't."
-#[tactic(auto, using(crate::proofs::Laws::walk_end, crate::proofs::Laws::walk_long))]
+#[tactic(auto, using(crate::proofs::Laws::walk_end, crate::proofs::Laws::walk_long, crate::proofs::Laws::walk_stands, crate::proofs::Laws::walk_passes))]
 fn pass(area: &[u16], d: Shape, p: Path, v: &[u16], last: u32) -> Result<Spot, Refusal>
-    requires { p.links ≤ 65000 }
     ensures { result ≡ pass d p area.now v.now d.cap (last_spot last) }
 {
     let mut t = last_spot(last);
@@ -165,13 +156,12 @@ fn pass(area: &[u16], d: Shape, p: Path, v: &[u16], last: u32) -> Result<Spot, R
 
 // "place the line"; "Unsorted: at the end."
 #[tactic(auto, unfolding(spec::specs::Detail::spot_for, spec::specs::Detail::at_end), using(spec::specs::Follow::goes, spec::specs::Follow::stops))]
-fn spot_for(area: &[u16], d: Shape, p: Path, entry: &[u16], last: u32) -> Result<Spot, Refusal>
-    requires { p.links ≤ 65000 }
+fn spot_for(area: &[u16], d: Shape, p: Path, entry: &Entry, last: u32) -> Result<Spot, Refusal>
     ensures { result ≡ spot_for d p area.now entry.now last }
 {
     if p.sorted {
-        let v = part(entry, p.sort.at as usize, p.sort.size as usize);
-        pass(area, d, p, v, last)
+        let v = entry.value(p.sort);
+        pass(area, d, p, v.words, last)
     } else {
         follow(area, d, last)?;
         Ok(last_spot(last))
@@ -180,118 +170,103 @@ fn spot_for(area: &[u16], d: Shape, p: Path, entry: &[u16], last: u32) -> Result
 
 // An end of a head, at a place in record k of the master, where there is no neighbour on that side.
 #[tactic(auto, unfolding(crate::specs::Answers::end_set), using(journal::specs::BackLaws::back_none))]
-pub fn set_end(
-    area: &mut [u16],
-    jr: &mut Journal,
-    s: Shape,
-    k: u32,
-    at: u16,
-    neighbour: u32,
-    v: u32,
-)
-    requires { 1 ≤ k }
-    ensures is { area.new ≡ end_set s area.old k at neighbour v }
-    ensures back { Back area.old jr.old 2 area.new jr.new }
+pub fn set_end(jr: &mut Journal, s: Shape, k: u32, at: u16, neighbour: u32, v: u32)
+    ensures is { jr.new.area.now ≡ end_set s jr.old.area.now k at neighbour v }
+    ensures back { Back jr.old 2 jr.new }
 {
     if neighbour == 0 {
-        poke_link(area, jr, s, k, at, v);
+        poke_link(jr, s, k, at, v);
     }
 }
 
 // "with 0 on a side, the head's first or last is the new line"
 #[tactic(auto, unfolding(spec::specs::Detail::new_ends, spec::specs::Area::set_last, spec::specs::Area::set_first, crate::specs::Answers::end_set), using(journal::specs::BackLaws::back_two))]
-fn new_ends(area: &mut [u16], jr: &mut Journal, p: Path, k: u32, r: u32, t: Spot)
-    requires { (1 ≤ k) × (p.head ≤ 65000) }
-    ensures is { area.new ≡ new_ends p area.old k r t }
-    ensures back { Back area.old jr.old 4 area.new jr.new }
+fn new_ends(jr: &mut Journal, p: SoundPath, k: u32, r: u32, t: Spot)
+    ensures is { jr.new.area.now ≡ new_ends p jr.old.area.now k r t }
+    ensures back { Back jr.old 4 jr.new }
 {
-    set_end(area, jr, p.to.shape, k, p.head + 1, t.ahead, r);
-    set_end(area, jr, p.to.shape, k, p.head + 3, t.behind, r);
+    set_end(jr, p.plain.to.shape, k, p.plain.head + 1, t.ahead, r);
+    set_end(jr, p.plain.to.shape, k, p.plain.head + 3, t.behind, r);
 }
 
 // The neighbours' links to the new line r.
 #[tactic(auto, unfolding(spec::specs::Detail::link_neighbours, spec::specs::Area::mend_back, spec::specs::Area::mend_fore), using(journal::specs::BackLaws::back_two))]
-fn neighbours(area: &mut [u16], jr: &mut Journal, d: Shape, p: Path, r: u32, t: Spot)
-    requires { p.links ≤ 65000 }
-    ensures is { area.new ≡ link_neighbours d p area.old r t }
-    ensures back { Back area.old jr.old 4 area.new jr.new }
+fn neighbours(jr: &mut Journal, d: Shape, p: SoundPath, r: u32, t: Spot)
+    ensures is { jr.new.area.now ≡ link_neighbours d p jr.old.area.now r t }
+    ensures back { Back jr.old 4 jr.new }
 {
-    mend(area, jr, d, t.behind, p.links + 2, r);
-    mend(area, jr, d, t.ahead, p.links, r);
+    mend(jr, d, t.behind, p.plain.links + 2, r);
+    mend(jr, d, t.ahead, p.plain.links, r);
 }
 
 // The new line's own links.
 #[tactic(auto, unfolding(spec::specs::Detail::link_own, spec::specs::Area::mend_back, spec::specs::Area::mend_fore), using(journal::specs::BackLaws::back_two))]
-fn own_links(area: &mut [u16], jr: &mut Journal, d: Shape, p: Path, r: u32, t: Spot)
-    requires { p.links ≤ 65000 }
-    ensures is { area.new ≡ link_own d p area.old r t }
-    ensures back { Back area.old jr.old 4 area.new jr.new }
+fn own_links(jr: &mut Journal, d: Shape, p: SoundPath, r: u32, t: Spot)
+    ensures is { jr.new.area.now ≡ link_own d p jr.old.area.now r t }
+    ensures back { Back jr.old 4 jr.new }
 {
-    mend(area, jr, d, r, p.links, t.behind);
-    mend(area, jr, d, r, p.links + 2, t.ahead);
+    mend(jr, d, r, p.plain.links, t.behind);
+    mend(jr, d, r, p.plain.links + 2, t.ahead);
 }
 
-// The head of the chain in record k: its count raised, and its ends.
+// The head of the chain in record k: its count raised, which was read whole, and its ends.
 #[tactic(auto, unfolding(spec::specs::Area::set_head_count), using(journal::specs::BackLaws::back_two))]
-fn raise_head(area: &mut [u16], jr: &mut Journal, p: Path, k: u32, count: u16, r: u32, t: Spot)
-    requires { (1 ≤ k) × (p.head ≤ 65000) × (count ≤ 65000) }
-    ensures is { area.new ≡ new_ends p (set_head_count p.to.shape area.old k p.head (count + 1)) k r t }
-    ensures back { Back area.old jr.old 5 area.new jr.new }
+fn raise_head(jr: &mut Journal, p: SoundPath, k: u32, count: u16, r: u32, t: Spot)
+    requires { count ≤ 65000 }
+    ensures is { jr.new.area.now ≡ new_ends p (set_head_count p.to.shape jr.old.area.now k p.head (count + 1)) k r t }
+    ensures back { Back jr.old 5 jr.new }
 {
-    poke(area, jr, p.to.shape, k, p.head, count + 1);
-    new_ends(area, jr, p, k, r, t);
+    poke(jr, p.plain.to.shape, k, p.plain.head, count + 1);
+    new_ends(jr, p, k, r, t);
 }
 
 // "The new links are that line and the one passed last": behind, ahead, head, own record.
 #[tactic(auto, unfolding(spec::specs::Detail::link_in), using(journal::specs::BackLaws::back_three))]
-fn link_in(area: &mut [u16], jr: &mut Journal, d: Shape, p: Path, k: u32, h: Head, r: u32, t: Spot)
-    requires { (1 ≤ k) × (p.head ≤ 65000) × (p.links ≤ 65000) × (h.count ≤ 65000) }
-    ensures is { area.new ≡ link_in d p area.old k h r t }
-    ensures back { Back area.old jr.old 13 area.new jr.new }
+fn link_in(jr: &mut Journal, d: Shape, p: SoundPath, k: u32, h: Head, r: u32, t: Spot)
+    requires { h.count ≤ 65000 }
+    ensures is { jr.new.area.now ≡ link_in d p jr.old.area.now k h r t }
+    ensures back { Back jr.old 13 jr.new }
 {
-    neighbours(area, jr, d, p, r, t);
-    raise_head(area, jr, p, k, h.count, r, t);
-    own_links(area, jr, d, p, r, t);
+    neighbours(jr, d, p, r, t);
+    raise_head(jr, p, k, h.count, r, t);
+    own_links(jr, d, p, r, t);
 }
 
 // The chain's head in record k of the master, the line's place, and its links.
 #[tactic(auto, unfolding(spec::specs::Detail::place_line, spec::specs::Detail::head_at), using(spec::specs::Follow::goes, spec::specs::Follow::stops, journal::specs::BackLaws::back_none))]
 fn place_line(
-    area: &mut [u16],
     jr: &mut Journal,
     d: Shape,
-    p: Path,
+    p: SoundPath,
     k: u32,
     r: u32,
-    entry: &[u16],
+    entry: &Entry,
 ) -> Result<u16, Refusal>
-    requires { (1 ≤ k) × (p.head ≤ 65000) × (p.links ≤ 65000) × (d.cap ≤ 4095) }
-    ensures is { placed_out result area.new ≡ place_line d p area.old k r entry.now }
-    ensures back { Back area.old jr.old 13 area.new jr.new }
+    requires { d.cap ≤ 4095 }
+    ensures is { placed_out result jr.new.area.now ≡ place_line d p jr.old.area.now k r entry.now }
+    ensures back { Back jr.old 13 jr.new }
 {
-    let h = read_head(area, d.cap, p.to.shape, k, p.head)?;
-    let t = spot_for(area, d, p, entry, h.back)?;
-    link_in(area, jr, d, p, k, h, r, t);
+    let h = read_head(jr.area(), d.cap, p.plain.to.shape, k, p.plain.head)?;
+    let t = spot_for(jr.area(), d, p.plain, entry, h.back)?;
+    link_in(jr, d, p, k, h, r, t);
     Ok(t.passed)
 }
 
 // One path's turn.
-#[tactic(auto, unfolding(spec::specs::Detail::put_path), using(spec::specs::Follow::goes, spec::specs::Follow::stops, crate::proofs::Laws::room_refused))]
+#[tactic(auto, unfolding(spec::specs::Detail::put_path), using(spec::specs::Follow::goes, spec::specs::Follow::stops, crate::proofs::Laws::room_turn, crate::proofs::Laws::room_refused))]
 pub fn put_path(
-    area: &mut [u16],
     jr: &mut Journal,
     d: Shape,
-    p: Path,
+    p: SoundPath,
     i: u8,
     r: u32,
-    entry: &[u16],
+    entry: &Entry,
 ) -> Result<u16, Refusal>
-    requires le_cap { (1 ≤ p.to.shape.cap) × (p.to.shape.cap ≤ 4095) × (p.to.shape.width ≤ 557) × (5 ≤ p.to.shape.front) }
-    requires head_bound { (p.head ≤ 65000) × (p.links ≤ 65000) × (d.cap ≤ 4095) }
-    ensures is { placed_out result area.new ≡ put_path d p i area.old r entry.now }
-    ensures back { Back area.old jr.old (path_room p) area.new jr.new }
+    requires { d.cap ≤ 4095 }
+    ensures is { placed_out result jr.new.area.now ≡ put_path d p i jr.old.area.now r entry.now }
+    ensures back { Back jr.old (path_room p) jr.new }
 {
-    let key = part(entry, p.search.at as usize, p.search.size as usize);
-    let k = master_entry(area, jr, p, i, key)?;
-    place_line(area, jr, d, p, k, r, entry)
+    let key = entry.value(p.plain.search);
+    let k = master_entry(jr, p, i, &key)?;
+    place_line(jr, d, p, k, r, entry)
 }

@@ -5,7 +5,7 @@
 ghost use Rattle.std.specs.Prelude.{◌≡◌, true, [], ◌-◌, ◌≤◌, IfOk, IfErr};
 ghost use Rattle.spec.specs.Cursor.{nonzero, live_above, live_down, given_record, saved_record, keyed_record, numbered_record, chained_record, record_for, value_good, path_chosen, links_readable, saved_links, seen, readable};
 ghost use Rattle.spec.specs.Outcome.{accept, refuse};
-ghost use Rattle.spec.specs.Layout.{detail_of};
+ghost use Rattle.spec.specs.Layout.{detail_of, path_of};
 ghost use Rattle.spec.specs.Calls.{find_chain, find_on, find_steps, get_on, get_steps};
 ghost use Rattle.session.specs.Answers.{done_out};
 ghost use Rattle.named.specs.Named.{view_out};
@@ -16,10 +16,11 @@ mod got;
 use area::{follow, live, read_head, read_links, synonyms, word_alike};
 use find::find_key;
 pub use got::Got;
-use layout::{DetailSet, MasterSet, known};
+use layout::{DetailSet, MasterSet, SetPath, known};
 use named::{Named, current_record, name_cursor, name_set};
 use session::{Good, Session};
-use spec::{Cursor, Links, Master, Path, Refusal, Shape};
+use sound::SoundMaster;
+use spec::{Cursor, Links, Refusal, Shape};
 
 // What a get mode reads: a record by its number, the line ahead or behind on the current path, an entry by its key.
 #[derive(Clone, Copy)]
@@ -62,13 +63,13 @@ struct Told {
 // ---- find
 
 // "Find sets the path, record 0, back = last, forward = first; an empty chain of a present master succeeds with count 0"
-#[tactic(auto, unfolding(spec::specs::Calls::find_chain, spec::specs::Detail::head_at), using(spec::specs::Follow::goes, spec::specs::Follow::stops))]
-fn find_chain(area: &[u16], d: Shape, p: Path, i: u16, key: &[u16]) -> Result<Good, Refusal>
-    requires { (1 ≤ p.to.shape.cap) × (p.head ≤ 65000) }
-    ensures { done_out result area.now [] ≡ find_chain d p i area.now key.now }
+#[tactic(auto, unfolding(spec::specs::Calls::find_chain, spec::specs::Detail::head_at))]
+fn find_chain(path: &SetPath, area: &[u16], key: &[u16]) -> Result<Good, Refusal>
+    ensures { done_out result area.now [] ≡ find_chain path.now.set.now.shape (path_of path.now.set.now.root.now.words.now path.now.set.now.number path.now.number) path.now.number area.now key.now }
 {
-    let k = nonzero(find_key(area, p.to, key)?, Refusal::NoRecord)?;
-    let h = read_head(area, d.cap, p.to.shape, k, p.head)?;
+    let p = path.path();
+    let k = nonzero(find_key(area, p.to(), key)?, Refusal::NoRecord)?;
+    let h = read_head(area, path.set.shape.cap, p.plain.to.shape, k, p.plain.head)?;
     Ok(Good {
         size: 0,
         at: 0,
@@ -77,27 +78,27 @@ fn find_chain(area: &[u16], d: Shape, p: Path, i: u16, key: &[u16]) -> Result<Go
             back: h.back,
             fore: h.fore,
         },
-        cursor: Cursor::new().at_chain(i as u32, h),
+        cursor: Cursor::new().at_chain(path.number as u32, h),
         passed: [0; 4],
     })
 }
 
 // −52, −95, then the chain.
-#[tactic(auto, using(crate::proofs::Laws::find_unsearched, crate::proofs::Laws::find_long, crate::proofs::Laws::find_there))]
+#[tactic(auto, unfolding(spec::specs::Calls::find_on, spec::specs::Cursor::nonzero, spec::specs::Layout::detail_of))]
 fn find_on(d: &DetailSet, area: &[u16], item: u16, value: &[u16]) -> Result<Good, Refusal>
     ensures { done_out result area.now [] ≡ find_on d.now.root.now.words.now d.now.number (detail_of d.now.root.now.words.now d.now.number) area.now item value.now }
 {
-    let Some(p) = d.search_path(item) else {
+    let Some(path) = (&*d).search_path(item) else {
         return Err(Refusal::NotSearched);
     };
     if value.len() != root::item_length(d.root.words, item) as usize {
         return Err(Refusal::WrongLength);
     }
-    find_chain(area, d.shape, d.path(p), p, value)
+    find_chain(&path, area, value)
 }
 
 // Find: −91, −92, −21, −93, then the chain.
-#[tactic(auto, unfolding(spec::specs::Calls::find_steps, spec::specs::Calls::the_detail), using(named::specs::NamedLaws::ends_unknown))]
+#[tactic(auto, unfolding(spec::specs::Calls::find_steps, spec::specs::Calls::named_set, spec::specs::Calls::the_detail, named::specs::Named::set_named), using(layout::specs::Known::known_by_length))]
 pub fn find_steps(
     words: &[u16],
     area: &[u16],
@@ -120,8 +121,9 @@ pub fn find_steps(
 
 // ---- get
 
-// −31: "get mode not 1..7; 5, 6 on a master; 7 on a detail"
-#[tactic(auto, using(crate::proofs::Laws::mode_current, crate::proofs::Laws::mode_above, crate::proofs::Laws::mode_below, crate::proofs::Laws::mode_given, crate::proofs::Laws::mode_forward, crate::proofs::Laws::mode_backward, crate::proofs::Laws::mode_key))]
+// −31: "get mode not 1..7; 5, 6 on a master; 7 on a detail". One match over the mode's number and the set's kind, and no enum of modes
+// before it: document 01 names this form, and its table is by number, as the definitions' is. The enum is what comes out.
+#[tactic(auto, unfolding(crate::specs::Answers::mode_read, spec::specs::Cursor::reading, spec::specs::Cursor::readings, spec::specs::Cursor::mode_good))]
 fn reading_of<'a>(named: &'a Named<'a>, mode: u16) -> Result<Reading<'a>, Refusal>
     ensures { mode_out result ≡ mode_read (view_out named.now) mode }
 {
@@ -158,7 +160,7 @@ fn empty_above(area: &[u16], s: Shape, r: u32) -> bool
 
 // "lowest live above current"; 0 where there is none (the definition has it so). An empty word of the map is passed at once. (A
 // while loop: its steps are of 1 and of 16 records.)
-#[tactic(auto, using(crate::proofs::Laws::above_word, crate::proofs::Laws::above_found, crate::proofs::Laws::above_pass, crate::proofs::Laws::above_end))]
+#[tactic(auto, using(crate::proofs::Laws::above_word, crate::proofs::Laws::above_next, crate::proofs::Laws::above_end))]
 fn live_above(area: &[u16], s: Shape, from: u32) -> u32
     ensures { result ≡ live_above s area.now (s.cap - from) from }
 {
@@ -177,7 +179,6 @@ fn live_above(area: &[u16], s: Shape, from: u32) -> u32
 }
 
 // Whether the 16 records down from r are a word of the map and all unused.
-#[tactic(auto, using(crate::proofs::Laws::empty_down))]
 fn empty_down(area: &[u16], s: Shape, r: u32) -> bool
     ensures { result ≡ true → EmptyDown s area.now r }
 {
@@ -188,7 +189,7 @@ fn empty_down(area: &[u16], s: Shape, r: u32) -> bool
 }
 
 // "highest live below current"; 0 where there is none, as above. An empty word of the map is passed at once. (A while loop, as above.)
-#[tactic(auto, using(crate::proofs::Laws::down_word, crate::proofs::Laws::down_found, crate::proofs::Laws::down_pass, crate::proofs::Laws::down_end))]
+#[tactic(auto, unfolding(spec::specs::Cursor::live_down), using(crate::proofs::Laws::down_word, crate::proofs::Laws::down_next))]
 fn live_down(area: &[u16], s: Shape, from: u32) -> u32
     ensures { result ≡ live_down s area.now from }
 {
@@ -225,7 +226,7 @@ fn given_record(area: &[u16], s: Shape, r: u32) -> Result<u32, Refusal>
 }
 
 // "saved forward; 15 if 0", "saved back; 14 if 0"
-#[tactic(auto, unfolding(spec::specs::Cursor::saved_record, spec::specs::Area::read), using(spec::specs::Follow::goes, spec::specs::Follow::stops))]
+#[tactic(auto, unfolding(spec::specs::Cursor::saved_record, spec::specs::Area::read))]
 fn saved_record(area: &[u16], s: Shape, r: u32, none: Refusal) -> Result<u32, Refusal>
     ensures is { result ≡ saved_record s area.now r none }
     ensures found { IfOk result (λ k. 1 ≤ k) }
@@ -239,9 +240,8 @@ fn saved_record(area: &[u16], s: Shape, r: u32, none: Refusal) -> Result<u32, Re
 }
 
 // "the given key; 17 if absent"
-#[tactic(auto, unfolding(spec::specs::Cursor::keyed_record), using(spec::specs::Follow::goes, spec::specs::Follow::stops))]
-fn keyed_record(area: &[u16], m: Master, key: &[u16]) -> Result<u32, Refusal>
-    requires { 1 ≤ m.shape.cap }
+#[tactic(auto, unfolding(spec::specs::Cursor::keyed_record))]
+fn keyed_record(area: &[u16], m: SoundMaster, key: &[u16]) -> Result<u32, Refusal>
     ensures is { result ≡ keyed_record m area.now key.now }
     ensures found { IfOk result (λ k. 1 ≤ k) }
 {
@@ -313,15 +313,15 @@ impl<'a> Reading<'a> {
         match self {
             Reading::Numbered(which) => which.record(area, s, c, asked.number),
             Reading::Chained(way) => way.record(area, s, c),
-            Reading::Keyed(m) => keyed_record(area, m.master, asked.value),
+            Reading::Keyed(m) => keyed_record(area, m.sound(), asked.value),
         }
     }
 }
 
 // The links on a path, read whole; none on path 0.
-#[tactic(auto, unfolding(spec::specs::Cursor::links_readable, spec::specs::Cursor::saved_links), using(spec::specs::Follow::goes, spec::specs::Follow::stops, crate::proofs::Laws::links_seen))]
+#[tactic(auto, unfolding(spec::specs::Cursor::links_readable, spec::specs::Cursor::saved_links, spec::specs::Area::peek_links), using(area::specs::AreaLaws::links_fit))]
 fn links_on(area: &[u16], d: Shape, path: u32, r: u32) -> Result<Links, Refusal>
-    requires { (1 ≤ r) × (path ≤ 4) }
+    requires { path ≤ 4 }
     ensures whole { IfOk result (λ links. (links_readable d area.now path r ≡ accept tt) × (links ≡ saved_links d area.now path r)) }
     ensures torn { IfErr result (λ why. links_readable d area.now path r ≡ refuse why) }
 {
@@ -332,9 +332,9 @@ fn links_on(area: &[u16], d: Shape, path: u32, r: u32) -> Result<Links, Refusal>
 }
 
 // What a get tells of record r beside the entry, read whole.
-#[tactic(auto, unfolding(spec::specs::Cursor::readable, spec::specs::Cursor::seen, spec::specs::Layout::detail_of), using(spec::specs::Follow::goes, spec::specs::Follow::stops, crate::proofs::Laws::count_seen))]
+#[tactic(auto, unfolding(spec::specs::Cursor::readable, spec::specs::Cursor::seen, spec::specs::Layout::detail_of, spec::specs::Area::synonym_count), using(area::specs::AreaLaws::synonyms_fit))]
 fn seen(named: &Named, area: &[u16], path: u32, r: u32) -> Result<Told, Refusal>
-    requires { (1 ≤ r) × (path ≤ 4) }
+    requires { path ≤ 4 }
     ensures whole { IfOk result (λ told. (readable (view_out named.now) area.now path r ≡ accept tt) × (told.links ≡ (seen (view_out named.now) area.now path r).links) × (told.number ≡ (seen (view_out named.now) area.now path r).number)) }
     ensures torn { IfErr result (λ why. readable (view_out named.now) area.now path r ≡ refuse why) }
 {
@@ -351,7 +351,7 @@ fn seen(named: &Named, area: &[u16], path: u32, r: u32) -> Result<Told, Refusal>
 }
 
 // Of a named set with its cursor: −31, −95, −94, 50, then the record.
-#[tactic(auto, unfolding(spec::specs::Calls::get_on, crate::specs::Answers::mode_read), using(spec::specs::Follow::goes, spec::specs::Follow::stops, spec::specs::Follow::passes, spec::specs::Follow::fails))]
+#[tactic(auto, unfolding(spec::specs::Calls::get_on, crate::specs::Answers::mode_read))]
 fn get_on(named: &Named, area: &[u16], c: Cursor, asked: Asked) -> Result<Got, Refusal>
     requires { c.path ≤ 4 }
     ensures { got_out result area.now ≡ get_on (view_out named.now) area.now c asked.entry.mode asked.entry.number asked.entry.value.now asked.entry.room }
@@ -383,7 +383,7 @@ fn get_on(named: &Named, area: &[u16], c: Cursor, asked: Asked) -> Result<Got, R
 }
 
 // Get: −91, −92, −21, −93, then the record.
-#[tactic(auto, unfolding(spec::specs::Calls::get_steps), using(named::specs::NamedLaws::ends_unknown))]
+#[tactic(auto, unfolding(spec::specs::Calls::get_steps, spec::specs::Calls::named_set, named::specs::Named::set_named, named::specs::Named::cursor_named), using(layout::specs::Known::known_by_length))]
 pub fn get_steps(
     words: &[u16],
     area: &[u16],

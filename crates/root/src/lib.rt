@@ -13,7 +13,8 @@ pub use codes::{ItemType, Kind, UnknownCode};
 pub trait Readable: Copy {
     ghost words: { Self → List ℕ };
 
-    // The places that may be read, the items and sets that may be asked for, and the places within a set's 33 words.
+    // The places that may be read, the items and sets that may be asked for, and the places within a set's 33 words. (Each reader
+    // asks it of its number: a number and its root as one value would be made anew at each reading, which is no plainer.)
     ghost has_word: { Self → ℕ → Type 0 };
 
     ghost has_item: { Self → ℕ → Type 0 };
@@ -238,7 +239,7 @@ pub struct Plan {
 }
 
 // The path of set s whose search item is a given one; 0 where there is none (its clause's definition has it so).
-#[tactic(auto, unfolding(spec::specs::Root::search_path))]
+#[tactic(auto, using(std::proofs::lemmas::Bool::Decides::nat_tests), unfolding(spec::specs::Root::search_path, crate::specs::Ranges::last_of, spec::specs::Words::latest))]
 pub fn search_path<R: Readable>(root: R, s: u16, item: u16) -> u16
     requires set { R.has_set root s }
     requires places { (p : ℕ) → 1 ≤ p → p ≤ path_count (R.words root) s → R.has_place root (19 + 3 * p) }

@@ -2,6 +2,5 @@ pub mod Bits
 pub mod RootRules
 pub mod Steps
 pub mod Unused
-pub mod Listing
 pub mod Paths
 pub mod Counting

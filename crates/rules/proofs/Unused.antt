@@ -1,22 +1,41 @@
 -- The places of a set's items and paths, and the places after them that must be 0. Assumes nothing.
-use Prim.Native.Nat.{ℕ, zero, suc, ◌+◌, ◌*◌, ◌/◌, ◌≤◌, ◌<◌, ◌-◌}
-use mathlib.Core.Path.{◌≡◌, sym, ◌∙◌}
-use mathlib.Core.Bool.{Bool, true, false, ◌&&◌}
-use mathlib.Core.List.{List}
-use mathlib.Core.Logic.{dite}
-use native.Mathlib.Omega.{arith}
-use native.Mathlib.Decide.{dec_le, ℕ_discrete}
-use lib.ListN.{get_or, take, drop}
-use lib.Dec.{eqb}
+use Rattle.std.specs.Prelude.{ℕ, zero, suc, ◌+◌, ◌*◌, ◌≤◌, ◌<◌, ◌-◌, ◌≡◌, refl, Bool, ◌&&◌, List, get_or, take, drop, eqb}
+use Rattle.std.proofs.Common.{arith, ◌∙◌, ne_eqb}
+use Rattle.std.proofs.lemmas.Bool.Decides.{nat_tests}
+use Rattle.std.proofs.lemmas.Grind.{common_steps}
 use lib.Bits.{bit_or, bit_and, or_zero_l, or_add_and, and_le_r}
-use borrow.Author.Tests.{ne_eqb, lt-leb}
-use Rattle.std.proofs.Common.{get_or-drop, get_or-take}
 use Rattle.spec.specs.Words.{all}
 use Rattle.spec.specs.Root.{item_count, path_count, path_master, path_search, path_sort, set_item, item_listed, description, set_item_good, path_good, path_empty, set_path_good}
-use Rattle.root.specs.Ranges.{and_left, and_right, refused, never_both, and_both, same_test, all_at, all_of}
 use Rattle.root.specs.Good.{place_listed, triple_path}
 use Rattle.rules.specs.Rules.{unused}
 use Rattle.rules.proofs.Steps.{all_step}
+
+-- ---- a test of all, in parts
+joined : (a b c : Bool) → (a && b) && c ≡ a && (b && c)
+joined a b c = grind arith
+
+-- of the first k, and of the n after them
+all_parts : (f : ℕ → Bool) (k n : ℕ) → all (k + n) f ≡ all k f && all n (λ i. f (k + i))
+unfolding all
+all_parts f k zero = grind arith
+all_parts f k (suc n) =
+    let e : k + suc n - 1 ≡ k + n = omega arith in
+    rw (all_step f (k + suc n) (omega arith), e, all_parts f k n) (joined (all k f) (all n (λ i. f (k + i))) (f (k + suc n)))
+
+-- of three at a time
+all_threes : (f : ℕ → Bool) (n : ℕ) → all (3 * n) f ≡ all n (λ k. f (3 * k - 2) && f (3 * k - 1) && f (3 * k))
+unfolding all
+all_threes f zero = refl
+all_threes f (suc n) =
+    let a : 3 * suc n - 2 ≡ 3 * n + 1 = omega arith in
+    let b : 3 * suc n - 1 ≡ 3 * n + 2 = omega arith in
+    let c : 3 * suc n ≡ 3 * n + 3 = omega arith in
+    rw (a, b, c, all_parts f (3 * n) 3, all_threes f n)
+
+all_alike : (f g : ℕ → Bool) (n : ℕ) → ((i : ℕ) → 1 ≤ i → i ≤ n → f i ≡ g i) → all n f ≡ all n g
+unfolding all
+all_alike f g zero e = refl
+all_alike f g (suc n) e = rw (all_alike f g n (λ i l h. e i l (omega arith)), e (suc n) (omega arith) (omega arith))
 
 -- ---- unused places
 none_of : (a b : ℕ) → eqb (bit_or a b) 0 ≡ eqb a 0 && eqb b 0
@@ -31,153 +50,74 @@ module _ (root : List ℕ) (at : ℕ) where
       (k n seen : ℕ) → k < n → eqb seen 0 ≡ all k (unused root at) →
       eqb (bit_or seen (get_or (take n (drop (at + 1) root)) k 0)) 0 ≡ all (k + 1) (unused root at)
   unfolding unused
-  zeros_turn k n seen h e =
-      let a : k + 1 - 1 ≡ k = omega arith in
-      let b : at + 1 + k ≡ at + (k + 1) = omega arith in
-      let f : ℕ → Bool = unused root at in
-      let x : ℕ = get_or root (at + (k + 1)) 0 in
-      let w : get_or (take n (drop (at + 1) root)) k 0 ≡ x = rw (get_or-take, get_or-drop, b) in
-      let l : all (k + 1) f ≡ all k f && f (k + 1) = rw a at (all_step f (k + 1) (omega arith)) in
-      rw (w, l, ← e) (none_of seen x)
+  zeros_turn k n seen h e = grind (arith, common_steps, none_of seen (get_or root (at + (k + 1)) 0), all_step (unused root at) (k + 1))
 
-  module _ (n : ℕ) (low : 8 ≤ n) (high : n ≤ 16) where
-    abbrev first : Bool
-    first = all 8 (unused root at)
+  unused_on : (d i : ℕ) → unused root at (d + i) ≡ unused root (at + d) i
+  unfolding unused
+  unused_on d i = let e : at + (d + i) ≡ at + d + i = omega arith in rw e
 
-    abbrev last : Bool
-    last = all 8 (unused root (at + (n - 8)))
+-- two runs that share what stands between d and d + m
+shared : (a b c : Bool) → a && (b && c) ≡ (a && b) && (b && c)
+shared a b c = grind arith
 
-    up : first && last ≡ true → all n (unused root at) ≡ true
-    unfolding unused
-    up h =
-        all_of (unused root at) n
-        (λ i l k.
-        dite (dec_le i 8) (λ m. all_at (unused root at) 8 i (and_left first last h) l m)
-        (λ m.
-        let z : at + (n - 8) + (i - (n - 8)) ≡ at + i = omega arith in
-        rw z at (all_at (unused root (at + (n - 8))) 8 (i - (n - 8)) (and_right first last h) (omega arith) (omega arith))))
+lapped : (f : ℕ → Bool) (d m : ℕ) → all (d + (m + d)) f ≡ all (d + m) f && all (m + d) (λ i. f (d + i))
+lapped f d m =
+    rw (all_parts f d (m + d), all_parts f d m, all_parts (λ i. f (d + i)) m d)
+    (shared (all d f) (all m (λ i. f (d + i))) (all d (λ i. f (d + (m + i)))))
 
-    down : all n (unused root at) ≡ true → first && last ≡ true
-    unfolding unused
-    down h =
-        and_both first last
-        (all_of (unused root at) 8 (λ i l k. all_at (unused root at) n i h l (omega arith)))
-        (all_of (unused root (at + (n - 8))) 8
-        (λ i l k.
-        let z : at + (n - 8) + i ≡ at + (n - 8 + i) = omega arith in
-        rw z (all_at (unused root at) n (n - 8 + i) h (omega arith) (omega arith))))
-
-    -- from eight words on they are two runs of eight, which share what is less than sixteen
-    pub blank_twice : all n (unused root at) ≡ all 8 (unused root at) && all 8 (unused root (at + (n - 8)))
-    blank_twice = same_test (all n (unused root at)) (first && last) down up
+-- from eight words on they are two runs of eight, which share what is less than sixteen
+pub blank_twice :
+    (root : List ℕ) (at n : ℕ) → 8 ≤ n → n ≤ 16 → all n (unused root at) ≡ all 8 (unused root at) && all 8 (unused root (at + (n - 8)))
+blank_twice root at n low high =
+    let x : n - 8 + (16 - n + (n - 8)) ≡ n = omega arith in
+    let y : n - 8 + (16 - n) ≡ 8 = omega arith in
+    let z : 16 - n + (n - 8) ≡ 8 = omega arith in
+    (rw (x, y, z) at (lapped (unused root at) (n - 8) (16 - n)))
+    ∙ rw (all_alike (λ i. unused root at (n - 8 + i)) (unused root (at + (n - 8))) 8 (λ i l h. unused_on root at (n - 8) i))
 
 -- ---- the 16 item numbers: the listed ones, and 0 after them
-module _ (root : List ℕ) (s : ℕ) (few : item_count root s ≤ 16) where
+module _ (root : List ℕ) (s : ℕ) where
   abbrev n : ℕ
   n = item_count root s
 
-  abbrev after : ℕ
-  after = description root s + 4 + item_count root s
-
-  place_unused : (j : ℕ) → n < j → set_item_good root s j ≡ unused root after (j - n)
+  place_unused : (k : ℕ) → 1 ≤ k → set_item_good root s (n + k) ≡ unused root (description root s + 4 + item_count root s) k
   unfolding set_item_good unused set_item
-  place_unused j h =
-      let e : description root s + 4 + item_count root s + (j - item_count root s) ≡ description root s + 4 + j = omega arith in
-      rw (set_item_good, lt-leb j (item_count root s) h, e)
+  place_unused k l = grind (arith, nat_tests)
 
-  pub items_twice : all (item_count root s) (item_listed root s) ≡ false → all 16 (set_item_good root s) ≡ false
-  items_twice e =
-      sym (refused (all 16 (set_item_good root s))
-      (λ h.
-      never_both (all n (item_listed root s)) e
-      (all_of (item_listed root s) n (λ j l k. sym (place_listed root s j k) ∙ all_at (set_item_good root s) 16 j h l (omega arith)))))
-
-  pub items_rest :
-      all (item_count root s) (item_listed root s) ≡ true →
-      all 16 (set_item_good root s) ≡ all (16 - item_count root s) (unused root (description root s + 4 + item_count root s))
-  items_rest e = same_test (all 16 (set_item_good root s)) (all (16 - n) (unused root after)) down up
-    where
-      up : all (16 - n) (unused root after) ≡ true → all 16 (set_item_good root s) ≡ true
-      up h =
-          all_of (set_item_good root s) 16
-          (λ j l k.
-          dite (dec_le j n) (λ m. place_listed root s j m ∙ all_at (item_listed root s) n j e l m)
-          (λ m. place_unused j (omega arith) ∙ all_at (unused root after) (16 - n) (j - n) h (omega arith) (omega arith)))
-
-      down : all 16 (set_item_good root s) ≡ true → all (16 - n) (unused root after) ≡ true
-      down h =
-          all_of (unused root after) (16 - n)
-          (λ k l m.
-          let z : n + k - n ≡ k = omega arith in
-          (rw z at (sym (place_unused (n + k) (omega arith)))) ∙ all_at (set_item_good root s) 16 (n + k) h (omega arith) (omega arith))
+  pub items_parts :
+      item_count root s ≤ 16 →
+      all 16 (set_item_good root s)
+      ≡ all (item_count root s) (item_listed root s) && all (16 - item_count root s) (unused root (description root s + 4 + item_count root s))
+  items_parts few =
+      let z : n + (16 - n) ≡ 16 = omega arith in
+      let f : ℕ → Bool = set_item_good root s in
+      (rw z at (all_parts f n (16 - n)))
+      ∙ rw (all_alike f (item_listed root s) n (λ j l k. place_listed root s j k), all_alike (λ k. f (n + k)) (unused root (description root s + 4 + n)) (16 - n) (λ k l h. place_unused k l))
 
 -- ---- the four triples: the paths, and 0 after them
-triple_empty : (root : List ℕ) (s p : ℕ) → path_count root s < p → set_path_good root s p ≡ path_empty root s p
-unfolding set_path_good
-triple_empty root s p h = rw (set_path_good, lt-leb p (path_count root s) h)
-
-module _ (root : List ℕ) (s : ℕ) (few : path_count root s ≤ 4) where
+module _ (root : List ℕ) (s : ℕ) where
   abbrev paths : ℕ
   paths = path_count root s
 
   abbrev triples : ℕ
   triples = description root s + 20 + 3 * path_count root s
 
-  -- the three words of the triple p are those at 3 (p - paths) - 2, 3 (p - paths) - 1 and 3 (p - paths)
-  empty_words :
-      (p : ℕ) → paths < p → unused root triples (3 * (p - paths) - 2) ≡ true → unused root triples (3 * (p - paths) - 1) ≡ true →
-      unused root triples (3 * (p - paths)) ≡ true → path_empty root s p ≡ true
-  unfolding unused path_empty path_master path_search path_sort
-  empty_words p h a b c =
-      let x : description root s + 20 + 3 * path_count root s + (3 * (p - path_count root s) - 2) ≡ description root s + 18 + 3 * p = omega arith in
-      let y : description root s + 20 + 3 * path_count root s + (3 * (p - path_count root s) - 1) ≡ description root s + 19 + 3 * p = omega arith in
-      let z : description root s + 20 + 3 * path_count root s + 3 * (p - path_count root s) ≡ description root s + 20 + 3 * p = omega arith in
-      rw (rw x at a, rw y at b, rw z at c)
+  -- of the k-th triple after the paths the three words are those at 3 k - 2, 3 k - 1 and 3 k
+  triple_unused :
+      (k : ℕ) → 1 ≤ k →
+      set_path_good root s (paths + k) ≡ unused root triples (3 * k - 2) && unused root triples (3 * k - 1) && unused root triples (3 * k)
+  unfolding set_path_good path_empty path_master path_search path_sort unused
+  triple_unused k l = grind (arith, nat_tests)
 
-  word_empty :
-      (p k : ℕ) → paths < p → path_empty root s p ≡ true → k + 2 ≡ 3 * (p - paths) → (unused root triples k ≡ true) × (unused root triples (k + 1) ≡ true) × (unused root triples (k + 2) ≡ true)
-  unfolding unused path_empty path_master path_search path_sort
-  word_empty p k h e q =
-      let x : description root s + 20 + 3 * path_count root s + k ≡ description root s + 18 + 3 * p = omega arith in
-      let y : description root s + 20 + 3 * path_count root s + (k + 1) ≡ description root s + 19 + 3 * p = omega arith in
-      let z : description root s + 20 + 3 * path_count root s + (k + 2) ≡ description root s + 20 + 3 * p = omega arith in
-      let a : Bool = eqb (get_or root (description root s + 18 + 3 * p) 0) 0 in
-      let b : Bool = eqb (get_or root (description root s + 19 + 3 * p) 0) 0 in
-      let c : Bool = eqb (get_or root (description root s + 20 + 3 * p) 0) 0 in
-      (rw x (and_left a b (and_left (a && b) c e)), rw y (and_right a b (and_left (a && b) c e)), rw z (and_right (a && b) c e))
-
-  all_empty : all 4 (set_path_good root s) ≡ true → all (12 - 3 * paths) (unused root triples) ≡ true
-  all_empty h = all_of (unused root triples) (12 - 3 * paths) each
-    where
-      each : (k : ℕ) → 1 ≤ k → k ≤ 12 - 3 * paths → unused root triples k ≡ true
-      each k a b =
-          let q : ℕ = (k - 1) / 3 in
-          let e : path_empty root s (paths + q + 1) ≡ true =
-          sym (triple_empty root s (paths + q + 1) (omega arith)) ∙ all_at (set_path_good root s) 4 (paths + q + 1) h (omega arith) (omega arith) in
-          let w : (unused root triples (3 * q + 1) ≡ true) × (unused root triples (3 * q + 1 + 1) ≡ true) × (unused root triples (3 * q + 1 + 2) ≡ true) =
-          word_empty (paths + q + 1) (3 * q + 1) (omega arith) e (omega arith) in
-          dite (ℕ_discrete k (3 * q + 1)) (λ x. rw x w.0)
-          (λ x. dite (ℕ_discrete k (3 * q + 1 + 1)) (λ y. rw y w.1) (λ y. let z : k ≡ 3 * q + 1 + 2 = omega arith in rw z w.2))
-
-  pub paths_bad : all (path_count root s) (path_good root s) ≡ false → all 4 (set_path_good root s) ≡ false
-  paths_bad e =
-      sym (refused (all 4 (set_path_good root s))
-      (λ a.
-      never_both (all paths (path_good root s)) e
-      (all_of (path_good root s) paths (λ p l k. sym (triple_path root s p k) ∙ all_at (set_path_good root s) 4 p a l (omega arith)))))
-
-  pub paths_rest :
-      all (path_count root s) (path_good root s) ≡ true →
-      all 4 (set_path_good root s) ≡ all (12 - 3 * path_count root s) (unused root (description root s + 20 + 3 * path_count root s))
-  paths_rest e = same_test (all 4 (set_path_good root s)) (all (12 - 3 * paths) (unused root triples)) all_empty up
-    where
-      up : all (12 - 3 * paths) (unused root triples) ≡ true → all 4 (set_path_good root s) ≡ true
-      up a =
-          all_of (set_path_good root s) 4
-          (λ p l k.
-          dite (dec_le p paths) (λ m. triple_path root s p m ∙ all_at (path_good root s) paths p e l m)
-          (λ m.
-          triple_empty root s p (omega arith)
-          ∙ empty_words p (omega arith) (all_at (unused root triples) (12 - 3 * paths) (3 * (p - paths) - 2) a (omega arith) (omega arith))
-          (all_at (unused root triples) (12 - 3 * paths) (3 * (p - paths) - 1) a (omega arith) (omega arith))
-          (all_at (unused root triples) (12 - 3 * paths) (3 * (p - paths)) a (omega arith) (omega arith))))
+  pub paths_parts :
+      path_count root s ≤ 4 →
+      all 4 (set_path_good root s)
+      ≡ all (path_count root s) (path_good root s)
+      && all (12 - 3 * path_count root s) (unused root (description root s + 20 + 3 * path_count root s))
+  paths_parts few =
+      let y : paths + (4 - paths) ≡ 4 = omega arith in
+      let z : 3 * (4 - paths) ≡ 12 - 3 * paths = omega arith in
+      let f : ℕ → Bool = set_path_good root s in
+      let g : ℕ → Bool = unused root triples in
+      (rw y at (all_parts f paths (4 - paths)))
+      ∙ rw (all_alike f (path_good root s) paths (λ p l k. triple_path root s p k), all_alike (λ k. f (paths + k)) (λ k. g (3 * k - 2) && g (3 * k - 1) && g (3 * k)) (4 - paths) (λ k l h. triple_unused k l), ← z, all_threes g (4 - paths))

@@ -29,6 +29,7 @@ impl ItemSet {
     }
 
     // These and item i.
+    #[tactic(auto, using(crate::proofs::Bits::one_bit, crate::proofs::Bits::held_with))]
     pub fn with(self, i: u16) -> ItemSet
         requires { (1 ≤ i) × (i ≤ 64) }
         ensures { (x : ℕ) → held result.bits x ≡ held self.bits x || eqb i x }
@@ -39,6 +40,7 @@ impl ItemSet {
     }
 
     // These but for item i, which is among them.
+    #[tactic(auto, using(std::proofs::lemmas::Bool::Decides::nat_tests, crate::proofs::Bits::one_bit, crate::proofs::Bits::held_without), unfolding(crate::specs::Rules::held))]
     pub fn without(self, i: u16) -> ItemSet
         requires { held self.bits i ≡ true }
         ensures { (x : ℕ) → held result.bits x ≡ held self.bits x && not (eqb i x) }

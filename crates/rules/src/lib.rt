@@ -75,7 +75,7 @@ fn framed(words: &[u16]) -> Option<Stated>
 }
 
 // The counts and the length of the root, and its items.
-#[tactic(auto, unfolding(crate::specs::Rules::head_good))]
+#[tactic(auto, using(std::proofs::lemmas::Bool::Decides::nat_tests), unfolding(crate::specs::Rules::head_good, crate::specs::Rules::framed))]
 fn head(words: &[u16]) -> Option<Head>
     ensures value { is_some result ≡ head_good words.now }
     ensures same { IfSome result (λ r. r.root.words.now ≡ words.now) }

@@ -47,6 +47,7 @@ struct GoodSet<'a> {
 }
 
 // "Unused places are 0": the n words after a place, all looked at.
+#[tactic(auto, using(crate::proofs::Steps::steps, crate::proofs::Unused::zeros_turn))]
 fn zeros(root: Stated, at: usize, n: usize) -> bool
     requires n_in_bounds { at + n < length root.words.now }
     requires n_bound { at + n < 2 ^ 62 }
@@ -61,6 +62,7 @@ fn zeros(root: Stated, at: usize, n: usize) -> bool
 
 // The same. From eight words on they are two runs of eight, which share what is less than sixteen: a run of a fixed
 // length has no loop.
+#[tactic(auto, using(crate::proofs::Unused::blank_twice))]
 fn blank(root: Stated, at: usize, n: usize) -> bool
     requires n_in_bounds { at + n < length root.words.now }
     requires n_bound { at + n < 2 ^ 62 }
@@ -88,7 +90,7 @@ impl<'a> Set<'a> {
     }
 
     // The first n items.
-    #[tactic(auto, using(crate::proofs::Steps::steps), unfolding(spec::specs::Layout::items_length, spec::specs::Root::among, crate::specs::Rules::Holds))]
+    #[tactic(auto, using(crate::proofs::Steps::steps, crate::proofs::Steps::all_ends, crate::proofs::RootRules::short, crate::proofs::Bits::held_none), unfolding(spec::specs::Layout::items_length, spec::specs::Root::among, crate::specs::Rules::Holds))]
     fn first_items(&self, n: u16) -> Option<Listed>
         requires n_bound { n ≤ 16 }
         ensures value { is_some result ≡ all n (item_listed self.now.root.words.now self.now.number) }
@@ -106,7 +108,7 @@ impl<'a> Set<'a> {
     }
 
     // "item count 1..16", and the 16 item numbers: the listed ones, and 0 after them.
-    #[tactic(auto, using(std::proofs::lemmas::Bool::Decides::nat_tests), unfolding(crate::specs::Rules::items_good, spec::specs::Layout::entry_length))]
+    #[tactic(auto, using(std::proofs::lemmas::Bool::Decides::nat_tests, crate::proofs::Unused::items_parts), unfolding(crate::specs::Rules::items_good, spec::specs::Layout::entry_length))]
     fn items_good(&self) -> Option<Listed>
         ensures value { is_some result ≡ items_good self.now.root.words.now self.now.number }
         ensures holds { IfSome result (λ l. Holds self.now.root.words.now self.now.number (item_count self.now.root.words.now self.now.number) l.items.bits) }
@@ -137,7 +139,7 @@ impl<'a> Set<'a> {
     }
 
     // The rules of the set by itself.
-    #[tactic(auto, using(std::proofs::lemmas::Bool::Decides::nat_tests), unfolding(spec::specs::Root::set_good, crate::specs::Rules::items_good))]
+    #[tactic(auto, using(std::proofs::lemmas::Bool::Decides::nat_tests, root::specs::Good::paths_few), unfolding(spec::specs::Root::set_good, crate::specs::Rules::items_good))]
     fn good(&self) -> Option<GoodSet<'a>>
         ensures value { is_some result ≡ set_good self.now.root.words.now self.now.number }
         ensures same { IfSome result (λ s. s.set ≡ self.now) }
@@ -159,6 +161,7 @@ impl<'a> Set<'a> {
     }
 
     // The set judged, but for the paths that lead to it, its entry measured, and its own paths counted.
+    #[tactic(auto, using(crate::proofs::Unused::paths_parts, crate::proofs::Counting::counted_set), unfolding(crate::specs::Rules::set_judged))]
     fn judged(&self, counts: &mut Counts) -> bool
         requires counted { Counted self.now.root.words.now self.now.number 0 counts.old.leads counts.old.slots }
         requires filled { Filled (entry_length self.now.root.words.now) self.now.number counts.old.entries }
@@ -223,9 +226,10 @@ fn sortable(root: Stated, i: u16) -> bool
     )
 }
 
+// (A path goes by its number, at most 4: a value of number and set would have the clauses name the root through three structs.)
 impl<'a> GoodSet<'a> {
     // "its items are among its own set's items", "a sort item is K or X and isn't that path's search item" (0: none)
-    #[tactic(auto, using(std::proofs::lemmas::Bool::Decides::nat_tests), unfolding(spec::specs::Root::sort_good, crate::specs::Rules::Holds))]
+    #[tactic(auto, using(std::proofs::lemmas::Bool::Decides::nat_tests, crate::proofs::Paths::exists), unfolding(spec::specs::Root::sort_good, crate::specs::Rules::Holds))]
     fn sort_good(&self, p: u16) -> bool
         requires { p ≤ 4 }
         ensures { result ≡ sort_good self.now.set.root.words.now self.now.set.number p }
@@ -237,7 +241,7 @@ impl<'a> GoodSet<'a> {
 
     // The rules of path p. One test of the items left says both "its items are among its own set's items" and "search items
     // of one set differ".
-    #[tactic(auto, using(std::proofs::lemmas::Bool::Decides::nat_tests), unfolding(spec::specs::Root::path_good, spec::specs::Root::search_good, crate::specs::Rules::Spare))]
+    #[tactic(auto, using(std::proofs::lemmas::Bool::Decides::nat_tests, crate::proofs::Paths::exists), unfolding(spec::specs::Root::path_good, spec::specs::Root::search_good, spec::specs::Root::names_master, crate::specs::Rules::Spare))]
     fn path_good(&self, p: u16, spare: ItemSet) -> bool
         requires p_bound { p ≤ 4 }
         requires spare { Spare self.now.set.root.words.now self.now.set.number (p - 1) spare.bits }
@@ -252,6 +256,7 @@ impl<'a> GoodSet<'a> {
     }
 
     // The search item of path p leaves the spare ones.
+    #[tactic(auto, using(crate::proofs::Paths::spare_held, crate::proofs::Paths::spare_turn))]
     fn searched(&self, p: u16, spare: ItemSet) -> ItemSet
         requires p_bound { (1 ≤ p) × (p ≤ 4) }
         requires p_value { path_good self.now.set.root.words.now self.now.set.number p ≡ true }
@@ -262,6 +267,7 @@ impl<'a> GoodSet<'a> {
     }
 
     // Path p takes the next head of its master.
+    #[tactic(auto, using(crate::proofs::Paths::to_low, crate::proofs::Paths::to_place))]
     fn count(&self, p: u16, counts: &mut Counts)
         requires p_bound { (1 ≤ p) × (p ≤ 4) }
         requires p_value { path_good self.now.set.root.words.now self.now.set.number p ≡ true }
@@ -276,7 +282,7 @@ impl<'a> GoodSet<'a> {
     }
 
     // The paths of the set, judged and counted.
-    #[tactic(auto, using(crate::proofs::Steps::steps))]
+    #[tactic(auto, using(crate::proofs::Steps::steps, crate::proofs::Paths::spare_start))]
     fn paths_good(&self, counts: &mut Counts) -> bool
         requires counted { Counted self.now.set.root.words.now self.now.set.number 0 counts.old.leads counts.old.slots }
         ensures value { result ≡ all (path_count self.now.set.root.words.now self.now.set.number) (path_good self.now.set.root.words.now self.now.set.number) }
@@ -318,7 +324,7 @@ impl<'a> Head<'a> {
     }
 
     // The sets judged, but for the paths that lead to them, their entries measured, and all paths counted.
-    #[tactic(auto, using(crate::proofs::Steps::steps))]
+    #[tactic(auto, using(crate::proofs::Steps::steps, crate::proofs::Steps::all_ends, crate::proofs::Counting::leads_whole, crate::proofs::Counting::slots_whole), unfolding(root::specs::Plan::Entries))]
     pub fn sets_judged(&self) -> Option<Counts>
         ensures value { is_some result ≡ all (sets self.now.root.words.now) (set_judged self.now.root.words.now) }
         ensures leads { IfSome result (λ c. Leads self.now.root.words.now c.leads) }
@@ -339,7 +345,7 @@ impl<'a> Head<'a> {
     }
 
     // Each set, by the paths counted.
-    #[tactic(auto, using(crate::proofs::Steps::steps))]
+    #[tactic(auto, using(crate::proofs::Steps::steps, crate::proofs::Steps::all_ends), unfolding(root::specs::Plan::Leads))]
     pub fn all_leading_good(&self, counts: &Counts) -> bool
         requires { Leads self.now.root.words.now counts.now.leads }
         ensures { result ≡ all (sets self.now.root.words.now) (leading_good self.now.root.words.now) }

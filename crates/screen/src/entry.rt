@@ -36,15 +36,39 @@ impl Item {
             size: root::item_length(root, number),
         }
     }
+}
 
-    // The j-th item of set s.
-    pub fn of_set(root: &[u16], s: u16, j: u16) -> Item
-        requires { 1 ≤ s }
-        ensures number_value { result.number ≡ set_item root.now s j }
-        ensures kind_value { result.kind ≡ type_of (item_type root.now result.number) }
-        ensures size_value { result.size ≡ item_length root.now result.number }
+// A set of a root, whether that is good or not, by its number.
+#[derive(Clone, Copy)]
+pub struct ListedSet<'a> {
+    pub root: &'a [u16],
+    pub number: u16,
+    pub ghost from_one: { 1 ≤ number },
+}
+
+impl<'a> ListedSet<'a> {
+    // Its j-th item.
+    pub fn item(&self, j: u16) -> Item
+        ensures number_value { result.number ≡ set_item self.now.root.now self.now.number j }
+        ensures kind_value { result.kind ≡ type_of (item_type self.now.root.now result.number) }
+        ensures size_value { result.size ≡ item_length self.now.root.now result.number }
     {
-        Item::new(root, root::set_item(root, s, j))
+        Item::new(self.root, root::set_item(self.root, self.number, j))
+    }
+
+    // An entry of it, its items one after another.
+    pub fn say_entry<W: Write>(&self, writer: &mut W, entry: &[u16]) -> io::Result<()> {
+        let mut rest = entry;
+        for j in 1..=root::item_count(self.root, self.number) {
+            let item = self.item(j);
+            if 1 < j {
+                write!(writer, " ")?;
+            }
+            let (words, after) = rest.split_at(rest.len().min(item.size as usize));
+            say_value(writer, item.kind, words)?;
+            rest = after;
+        }
+        Ok(())
     }
 }
 
@@ -86,21 +110,4 @@ fn say_value<W: Write>(writer: &mut W, kind: ItemType, words: &[u16]) -> io::Res
         (ItemType::Unsigned, [word]) => write!(writer, "{word}"),
         (ItemType::Unsigned, _) => write!(writer, "{}", long_at(words, 0)),
     }
-}
-
-// An entry of set s, its items one after another.
-pub fn say_entry<W: Write>(writer: &mut W, root: &[u16], s: u16, entry: &[u16]) -> io::Result<()>
-    requires { 1 ≤ s }
-{
-    let mut rest = entry;
-    for j in 1..=root::item_count(root, s) {
-        let item = Item::of_set(root, s, j);
-        if 1 < j {
-            write!(writer, " ")?;
-        }
-        let (words, after) = rest.split_at(rest.len().min(item.size as usize));
-        say_value(writer, item.kind, words)?;
-        rest = after;
-    }
-    Ok(())
 }

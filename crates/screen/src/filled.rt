@@ -1,7 +1,7 @@
 // The sets of a root: their kinds, items and paths, how full they are, and their maps.
 ghost use Rattle.std.specs.Prelude.{◌≤◌};
 
-use crate::Item;
+use crate::{Item, ListedSet};
 use area::{freed, live, mark};
 use root::{Kind, item_count, key_item, kind, path_count, path_master, path_search, path_sort};
 use spec::Shape;
@@ -41,63 +41,59 @@ impl fmt::Display for Fill {
 
 // Where a set stands in the area, if the root is good and has it.
 fn shape(root: &[u16], s: u16) -> Option<Shape> {
-    if s == 0 || root::sets(root) < s {
-        return None;
-    }
-    Some(layout::ruled(root)?.shape_of(s))
+    let root = layout::ruled(root)?;
+    let set = root.set(s)?;
+    Some(set.shape())
 }
 
-// The items of set s, each with its type and length.
-fn say_items<W: Write>(writer: &mut W, root: &[u16], s: u16) -> io::Result<()>
-    requires { 1 ≤ s }
-{
-    for j in 1..=item_count(root, s) {
-        let Item { number, kind, size } = Item::of_set(root, s, j);
-        write!(writer, " {number}:{kind}{size}")?;
+impl<'a> ListedSet<'a> {
+    // Its items, each with its type and length.
+    fn say_items<W: Write>(&self, writer: &mut W) -> io::Result<()> {
+        for j in 1..=item_count(self.root, self.number) {
+            let Item { number, kind, size } = self.item(j);
+            write!(writer, " {number}:{kind}{size}")?;
+        }
+        Ok(())
     }
-    Ok(())
-}
 
-fn say_path<W: Write>(writer: &mut W, root: &[u16], s: u16, p: u16) -> io::Result<()>
-    requires { 1 ≤ s }
-{
-    let search = path_search(root, s, p);
-    let master = path_master(root, s, p);
-    write!(
-        writer,
-        "    path {p}: search item {search}, master set {master}"
-    )?;
-    match path_sort(root, s, p) {
-        0 => writeln!(writer, ", in the order put"),
-        sort => writeln!(writer, ", sorted by item {sort}"),
+    fn say_path<W: Write>(&self, writer: &mut W, p: u16) -> io::Result<()> {
+        let search = path_search(self.root, self.number, p);
+        let master = path_master(self.root, self.number, p);
+        write!(
+            writer,
+            "    path {p}: search item {search}, master set {master}"
+        )?;
+        match path_sort(self.root, self.number, p) {
+            0 => writeln!(writer, ", in the order put"),
+            sort => writeln!(writer, ", sorted by item {sort}"),
+        }
     }
-}
 
-fn say_set<W: Write>(writer: &mut W, root: &[u16], area: &[u16], s: u16) -> io::Result<()>
-    requires { 1 ≤ s }
-{
-    let kind = Kind::try_from(kind(root, s)).unwrap_or(Kind::Detail);
-    write!(writer, "set {s}: {kind}, ")?;
-    match shape(root, s) {
-        Some(at) => write!(writer, "{}", Fill::of(area, at))?,
-        None => write!(writer, "nowhere")?,
+    fn say<W: Write>(&self, writer: &mut W, area: &[u16]) -> io::Result<()> {
+        let number = self.number;
+        let kind = Kind::try_from(kind(self.root, number)).unwrap_or(Kind::Detail);
+        write!(writer, "set {number}: {kind}, ")?;
+        match shape(self.root, number) {
+            Some(at) => write!(writer, "{}", Fill::of(area, at))?,
+            None => write!(writer, "nowhere")?,
+        }
+        write!(writer, ", items")?;
+        self.say_items(writer)?;
+        let key = key_item(self.root, number);
+        if 0 < key {
+            write!(writer, ", key {key}")?;
+        }
+        writeln!(writer)?;
+        for p in 1..=path_count(self.root, number) {
+            self.say_path(writer, p)?;
+        }
+        Ok(())
     }
-    write!(writer, ", items")?;
-    say_items(writer, root, s)?;
-    let key = key_item(root, s);
-    if 0 < key {
-        write!(writer, ", key {key}")?;
-    }
-    writeln!(writer)?;
-    for p in 1..=path_count(root, s) {
-        say_path(writer, root, s, p)?;
-    }
-    Ok(())
 }
 
 pub fn sets<W: Write>(writer: &mut W, root: &[u16], area: &[u16]) -> io::Result<()> {
-    for s in 1..=root::sets(root) {
-        say_set(writer, root, area, s)?;
+    for number in 1..=root::sets(root) {
+        ListedSet { root, number }.say(writer, area)?;
     }
     Ok(())
 }

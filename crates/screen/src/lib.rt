@@ -7,5 +7,5 @@ mod entry;
 mod filled;
 
 pub use condition::Refused;
-pub use entry::{Item, say_entry};
+pub use entry::{Item, ListedSet};
 pub use filled::{map, sets};

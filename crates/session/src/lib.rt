@@ -48,25 +48,29 @@ impl Default for Session {
 }
 
 impl Session {
+    // A set's cursor; a fresh one past the sixteenth.
     pub fn cursor_of(&self, set: u16) -> Cursor
-        requires { (1 ≤ set) × (set ≤ 16) }
         ensures { result ≡ get_or self.now.cursors (set - 1) fresh }
     {
-        self.cursors[(set - 1) as usize]
+        let own = set.saturating_sub(1) as usize;
+        self.cursors.get(own).copied().unwrap_or(Cursor::new())
     }
 
+    // A set's cursor is replaced; none past the sixteenth.
     fn with_cursor(mut self, set: u16, c: Cursor) -> Session
-        requires { (1 ≤ set) × (set ≤ 16) }
         ensures { result.cursors ≡ set_at self.cursors (set - 1) c }
     {
-        let own = (set - 1) as usize;
-        self.cursors[own] = c;
+        let own = set.saturating_sub(1) as usize;
+        if own < self.cursors.len() {
+            self.cursors[own] = c;
+        }
         self
     }
 }
 
 impl Good {
     // "Status on success: 0; entry length; record; ..; saved back; saved forward."
+    #[tactic(auto, unfolding(spec::specs::Calls::status_words, spec::specs::Words::long_words))]
     fn status(self) -> [u16; 10]
         ensures { result ≡ status_words self.size self.at self.number self.links }
     {
@@ -86,6 +90,7 @@ impl Good {
 }
 
 // "word 1 the number, nine zeros"
+#[tactic(auto, unfolding(spec::specs::Outcome::refused_words))]
 pub fn refused_status(why: Refusal) -> [u16; 10]
     ensures { result ≡ refused_words why }
 {
@@ -95,7 +100,6 @@ pub fn refused_status(why: Refusal) -> [u16; 10]
 
 // What the caller is answered.
 pub fn answer_of(o: Result<Good, Refusal>, s: Session, set: u16) -> Answer
-    requires { IfOk o (λ _. (1 ≤ set) × (set ≤ 16)) }
     ensures status { result.status ≡ status_out o }
     ensures cursors { result.session.cursors ≡ cursors_out o s.cursors set }
     ensures passed { result.passed ≡ passed_out o }

@@ -25,13 +25,13 @@ pub path_within : (root : List ℕ) (s count i : ℕ) → count ≡ path_count r
 path_within root s count i e h = omega arith
 
 -- after i turns, after one more, and after as many as there are paths
-module _ (a₀ a : List ℕ) (j₀ j : Journal) (i n : ℕ) (k : Back a₀ j₀ (173 * i) a j) where
-  pub paths_all : i ≤ n → Back a₀ j₀ (173 * n) a j
+module _ (j₀ j : Journal) (i n : ℕ) (k : Back j₀ (173 * i) j) where
+  pub paths_all : i ≤ n → Back j₀ (173 * n) j
   paths_all h = back_more _ (omega arith) k
 
-  module _ (a₁ : List ℕ) (j₁ : Journal) (b : Back a j 173 a₁ j₁) where
-    pub back_next : Back a₀ j₀ (173 * (i + 1)) a₁ j₁
+  module _ (j₁ : Journal) (b : Back j 173 j₁) where
+    pub back_next : Back j₀ (173 * (i + 1)) j₁
     back_next = back_more _ (omega arith) (back_then k b)
 
-    pub back_all : i < n → Back a₀ j₀ (173 * n) a₁ j₁
+    pub back_all : i < n → Back j₀ (173 * n) j₁
     back_all h = back_more _ (omega arith) back_next

@@ -2,11 +2,13 @@
 // words compared, bits of a map, and the word that stores a signed condition.
 #![tactic(auto)]
 
-ghost use Rattle.std.specs.Prelude.{◌≡◌, ◌/◌, ◌%◌, ◌<◌, ◌^◌, length, get_or, set, take, drop, eqb};
+ghost use Rattle.std.specs.Prelude.{◌≡◌, ℕ, ◌/◌, ◌%◌, ◌<◌, ◌^◌, length, get_or, set, take, drop, replicate, eqb};
 ghost use Rattle.std.proofs.lemmas.List.Edits.{sets};
 ghost use Rattle.spec.specs.Outcome.{twos};
 ghost use Rattle.spec.specs.Words.{long, same as same_words, greater as greater_words};
 ghost use Rattle.spec.specs.Area.{bit_of, with_bit, without_bit};
+
+use std::marker::Model;
 
 // The word at i; 0 past the end.
 pub fn word(a: &[u16], i: usize) -> u16
@@ -81,34 +83,56 @@ pub fn lay(a: &mut [u16], at: usize, vs: &[u16])
     a[start..start + n].copy_from_slice(&vs[..n]);
 }
 
-// Bit p of a word, 15 the highest.
+// The n words from a place on become 0, as far as there are any.
+#[tactic(auto, using(crate::proofs::Laws::laid_zeros))]
+pub fn lay_zeros(a: &mut [u16], at: usize, n: usize)
+    ensures { a.new ≡ sets a.old at (replicate n 0) }
+{
+    let start = at.min(a.len());
+    let n = n.min(a.len() - start);
+    a[start..start + n].fill(0);
+}
+
+// A bit's place in a word: 0 the lowest, 15 the highest.
+#[derive(Clone, Copy)]
+pub struct Bit {
+    pub place: u16,
+}
+
+impl Model for Bit {
+    ghost Value = { ℕ };
+
+    ghost view = { λ p. p.place };
+
+    ghost invariant = { λ p. p.place < 16 };
+
+    ghost inverse = { λ n. record { place = n } };
+}
+
+// Whether a bit of a word is 1.
 #[tactic(auto, unfolding(spec::specs::Area::bit_of))]
-pub fn bit_set(w: u16, p: u16) -> bool
-    requires { p < 16 }
+pub fn bit_set(w: u16, p: Bit) -> bool
     ensures { result ≡ eqb (bit_of w p) 1 }
 {
-    (w >> p) % 2 == 1
+    (w >> p.place) % 2 == 1
 }
 
 // The word whose only one is bit p.
-fn one(p: u16) -> u16
-    requires { p < 16 }
+fn one(p: Bit) -> u16
     ensures { result ≡ 2 ^ p }
 {
-    1 << p
+    1 << p.place
 }
 
 #[tactic(auto, unfolding(spec::specs::Area::with_bit))]
-pub fn bit_on(w: u16, p: u16) -> u16
-    requires { p < 16 }
+pub fn bit_on(w: u16, p: Bit) -> u16
     ensures { result ≡ with_bit w p }
 {
     w | one(p)
 }
 
 #[tactic(auto, using(crate::proofs::Bits::cleared), unfolding(spec::specs::Area::without_bit))]
-pub fn bit_off(w: u16, p: u16) -> u16
-    requires { p < 16 }
+pub fn bit_off(w: u16, p: Bit) -> u16
     ensures { result ≡ without_bit w p }
 {
     w & !one(p)

@@ -1,12 +1,8 @@
-use Rattle.layout.proofs.Starts.{start_first, start_turn, started_turn, starts_whole}
-use Rattle.root.specs.Plan.{filled_start}
+use Rattle.std.proofs.Common.{arith}
+use Rattle.std.proofs.lemmas.Grind.{common_steps}
+use Rattle.layout.proofs.Good.{sets_few}
+use Rattle.layout.proofs.Starts.{start_more}
 use Rattle.layout.proofs.judged.Judged.starts.Goals as goal
 
-pub loop-k-init : goal.loop-k-init
-loop-k-init c = record { at = search start_first; filled = search filled_start }
-
 pub loop-k-preserved : goal.loop-k-preserved
-loop-k-preserved c = record { at = search start_turn; filled = search started_turn }
-
-pub returns : goal.returns
-returns c = search starts_whole
+loop-k-preserved c = record { at = grind (arith, start_more); long = grind (arith, common_steps); before = λ s a b. grind (arith, common_steps, sets_few, c.loop-k.invariant.before s) }

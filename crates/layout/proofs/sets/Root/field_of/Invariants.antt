@@ -1,6 +1,0 @@
-use Rattle.std.proofs.Common.{◌≡◌, ◌≤◌, ◌-◌}
-use Rattle.spec.specs.Layout.{items_length, item_number}
-use Rattle.layout.proofs.sets.Root.field_of.Given as goal
-
-abbrev pub invariant-loop-j : goal.invariant-loop-j
-invariant-loop-j l = record { before : l.j ≤ item_number l.self.words.now l.s l.item; at : l.at ≡ items_length l.self.words.now l.s (l.j - 1) }
