@@ -1,5 +1,7 @@
 // The area's map, records, heads, links and synonym words, each read and written by one function; what is read whole is held
-// against the rules of answer 18. A function that writes keeps what it overwrites in the journal.
+// against the rules of answer 18. A function that writes keeps what it overwrites in the journal. (Area or journal, shape and record
+// are three parameters: a path's turn goes between two sets, and a walk from record to record. Map, marks and links have a function
+// for each definition.)
 #![tactic(auto)]
 
 ghost use Rattle.std.specs.Prelude.{◌≡◌, true, IfOk, ◌||◌, ◌&&◌, not, ◌+◌, ◌-◌, ◌*◌, ◌≤◌, ◌<◌, ◌^◌, length, eqb, leb};
@@ -64,7 +66,8 @@ pub fn live(area: &[u16], s: Shape, r: u32) -> bool
 }
 
 // "one bit per record, 1 = live, record 1 in the highest bit of the first word": whether record r is the first of a word of the
-// map whose 16 records are all live, or all unused. A search passes such a word at once.
+// map whose 16 records are all live, or all unused. A search passes such a word at once. (A flag: a put looks for a record that is
+// unused, a serial read for one that is live, each by this word.)
 pub fn word_alike(area: &[u16], s: Shape, r: u32, on: bool) -> bool
     ensures { result ≡ true → Alike s area.now r on }
 {
@@ -241,7 +244,8 @@ pub fn set_freed(jr: &mut Journal, s: Shape, v: u16)
     jr.store(Place { at }, v);
 }
 
-// Answer 18: "a link above C", a count above its set's capacity.
+// Answer 18: "a link above C", a count above its set's capacity. (That what is read is within a limit is told by a clause: the limit is
+// the caller's, and a type can't name it.)
 #[tactic(auto, unfolding(spec::specs::Area::read))]
 fn read(limit: u16, n: u32) -> Result<u32, Refusal>
     ensures is { result ≡ read limit n }

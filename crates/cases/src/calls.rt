@@ -1,5 +1,6 @@
 // The six calls, as lines of the script ask for them. What a call may change is kept before it, so that every word that it
 // changed can be written.
+use crate::command::Verb;
 use crate::report::{Lent, made, told};
 use crate::stage::Stage;
 use session::{Answer, Session};
@@ -22,15 +23,7 @@ impl Stage {
         value: &[u16],
     ) -> io::Result<()> {
         let answer = engine::find(&self.root, &self.area, self.session, set, item, value);
-        let lent = Lent {
-            put: false,
-            what: "",
-            before: &[],
-            after: &[],
-        };
-        told(writer, &answer, &self.session.cursors, lent)?;
-        self.session = answer.session;
-        Ok(())
+        told(writer, Verb::Find, &mut self.session, answer, None)
     }
 
     // A get changes the buffer, if any slice.
@@ -54,21 +47,18 @@ impl Stage {
             &mut self.buffer,
         );
         let lent = Lent {
-            put: false,
             what: "  buffer ",
             before: &kept,
             after: &self.buffer,
         };
-        told(writer, &answer, &self.session.cursors, lent)?;
-        self.session = answer.session;
-        Ok(())
+        told(writer, Verb::Get, &mut self.session, answer, Some(lent))
     }
 
     // A call that changes the area, if any slice.
     fn change_area<W: Write, F: FnOnce(&[u16], &mut [u16], Session) -> Answer>(
         &mut self,
         writer: &mut W,
-        put: bool,
+        verb: Verb,
         call: F,
     ) -> io::Result<()>
         requires { F.IsAlwaysCallable call }
@@ -76,20 +66,17 @@ impl Stage {
         let kept = self.area.clone()?;
         let answer = call(&self.root, &mut self.area, self.session);
         let lent = Lent {
-            put,
             what: "  area ",
             before: &kept,
             after: &self.area,
         };
-        told(writer, &answer, &self.session.cursors, lent)?;
-        self.session = answer.session;
-        Ok(())
+        told(writer, verb, &mut self.session, answer, Some(lent))
     }
 
     pub fn put<W: Write>(&mut self, writer: &mut W, set: u16, entry: &[u16]) -> io::Result<()> {
         self.change_area(
             writer,
-            true,
+            Verb::Put,
             |root, area, s| engine::put(root, area, s, set, entry),
         )
     }
@@ -97,7 +84,7 @@ impl Stage {
     pub fn update<W: Write>(&mut self, writer: &mut W, set: u16, entry: &[u16]) -> io::Result<()> {
         self.change_area(
             writer,
-            false,
+            Verb::Update,
             |root, area, s| engine::update(root, area, s, set, entry),
         )
     }
@@ -105,7 +92,7 @@ impl Stage {
     pub fn delete<W: Write>(&mut self, writer: &mut W, set: u16) -> io::Result<()> {
         self.change_area(
             writer,
-            false,
+            Verb::Delete,
             |root, area, s| engine::delete(root, area, s, set),
         )
     }

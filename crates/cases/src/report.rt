@@ -1,5 +1,6 @@
 // What is written of a call: its status words, the lines passed, and every cursor and every word that it changed.
-use session::Answer;
+use crate::command::Verb;
+use session::{Answer, Session};
 use spec::Cursor;
 use std::io;
 use std::io::Write;
@@ -17,7 +18,8 @@ fn say_words<W: Write>(writer: &mut W, what: &str, words: &[u16]) -> io::Result<
     writeln!(writer)
 }
 
-// A set's cursor as numbers.
+// A set's cursor as numbers, which are compared and written: the spec's `Cursor` has no `==`, and the definitions' crate gets none for
+// a program's sake.
 fn numbers(c: &Cursor) -> [u32; 4] {
     [c.current, c.path, c.back, c.fore]
 }
@@ -30,8 +32,9 @@ fn cursors<W: Write>(
 ) -> io::Result<bool> {
     let mut any = false;
     for (i, (before, after)) in before.iter().zip(after).enumerate() {
-        let ([a, b, c, d], [k, l, m, n]) = (numbers(before), numbers(after));
-        if [a, b, c, d] != [k, l, m, n] {
+        let (old, new) = (numbers(before), numbers(after));
+        if old != new {
+            let ([a, b, c, d], [k, l, m, n]) = (old, new);
             writeln!(
                 writer,
                 "  cursor {}: {a} {b} {c} {d} -> {k} {l} {m} {n}",
@@ -78,31 +81,35 @@ pub fn made<W: Write>(
     Ok(())
 }
 
-// What a call may change: the cursors, and one lent slice, which is told as it was and as it is. After a put the lines passed
-// are told even if they are all 0.
+// A lent slice that a call may change, as it was and as it is.
 #[derive(Clone, Copy)]
 pub struct Lent<'a> {
-    pub put: bool,
     pub what: &'static str,
     pub before: &'a [u16],
     pub after: &'a [u16],
 }
 
-// What any other call answered and changed.
+// What any other call answered and changed; the session is then the call's. After a put the lines passed are told even if they
+// are all 0.
 pub fn told<W: Write>(
     writer: &mut W,
-    answer: &Answer,
-    before: &[Cursor; 16],
-    lent: Lent,
+    verb: Verb,
+    session: &mut Session,
+    answer: Answer,
+    lent: Option<Lent>,
 ) -> io::Result<()> {
     say_words(writer, "  status", &answer.status)?;
-    if lent.put || answer.passed != [0; 4] {
+    if verb == Verb::Put || answer.passed != [0; 4] {
         say_words(writer, "  passed", &answer.passed)?;
     }
-    let moved = cursors(writer, before, &answer.session.cursors)?;
-    let changed = changes(writer, lent.what, lent.before, lent.after)?;
+    let moved = cursors(writer, &session.cursors, &answer.session.cursors)?;
+    let changed = match lent {
+        Some(lent) => changes(writer, lent.what, lent.before, lent.after)?,
+        None => false,
+    };
     if !moved && !changed {
         writeln!(writer, "  nothing changed")?;
     }
+    *session = answer.session;
     Ok(())
 }

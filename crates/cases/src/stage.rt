@@ -56,17 +56,22 @@ impl Stage {
         Ok(())
     }
 
-    // A change of what the calls work on.
-    fn change(&mut self, verb: Verb, numbers: &[u32]) -> Result<(), Failed> {
+    // A change of what the calls work on, or a call of the engine.
+    fn work<W: Write>(
+        &mut self,
+        writer: &mut W,
+        verb: Verb,
+        numbers: &[u32],
+    ) -> Result<(), Failed> {
         match (verb, numbers) {
             (Verb::Root, words) => {
                 self.root.clear();
-                lay(words, &mut self.root)
+                lay(words, &mut self.root)?;
             }
-            (Verb::MoreRoot, words) => lay(words, &mut self.root),
-            (Verb::RootWord, [at, word]) => poke(&mut self.root, *at, *word),
-            (Verb::Zeros, [n]) => self.zeros(*n),
-            (Verb::AreaWord, [at, word]) => poke(&mut self.area, *at, *word),
+            (Verb::MoreRoot, words) => lay(words, &mut self.root)?,
+            (Verb::RootWord, [at, word]) => poke(&mut self.root, *at, *word)?,
+            (Verb::Zeros, [n]) => self.zeros(*n)?,
+            (Verb::AreaWord, [at, word]) => poke(&mut self.area, *at, *word)?,
             (Verb::Cursor, [set, current, path, back, fore]) => {
                 let c = Cursor {
                     current: *current,
@@ -74,28 +79,13 @@ impl Stage {
                     back: *back,
                     fore: *fore,
                 };
-                self.set_cursor(*set, c)
+                self.set_cursor(*set, c)?;
             }
             (Verb::Buffer, words) => {
                 self.buffer.clear();
-                lay(words, &mut self.buffer)
+                lay(words, &mut self.buffer)?;
             }
-            (Verb::Reset, []) => {
-                self.session = Session::default();
-                Ok(())
-            }
-            _ => Err(Failed::Unreadable),
-        }
-    }
-
-    // A call of the engine.
-    fn call<W: Write>(
-        &mut self,
-        writer: &mut W,
-        verb: Verb,
-        numbers: &[u32],
-    ) -> Result<(), Failed> {
-        match (verb, numbers) {
+            (Verb::Reset, []) => self.session = Session::default(),
             (Verb::New, []) => self.make(writer)?,
             (Verb::Find, [set, item, value @ ..]) => {
                 let (set, item) = (u16::try_from(*set)?, u16::try_from(*item)?);
@@ -119,14 +109,9 @@ impl Stage {
 
     pub fn work_line<W: Write>(&mut self, writer: &mut W, line: &[u8]) -> Result<(), Failed> {
         report::echo(writer, line)?;
-        let Some((verb, numbers)) = command_of(self.alloc, line)? else {
-            return Ok(());
-        };
-        match verb {
-            Verb::New | Verb::Find | Verb::Get | Verb::Put | Verb::Update | Verb::Delete => {
-                self.call(writer, verb, &numbers)
-            }
-            _ => self.change(verb, &numbers),
+        match command_of(self.alloc, line)? {
+            Some((verb, numbers)) => self.work(writer, verb, &numbers),
+            None => Ok(()),
         }
     }
 }

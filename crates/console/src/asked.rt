@@ -1,4 +1,5 @@
-// What a command asks of the engine, read from its line and found good.
+// What a command asks of the engine, read from its line and found good. (Root, rest of the line and words are three: each question reads
+// on in the line by itself.)
 ghost use Rattle.std.specs.Prelude.{◌≤◌, IsTrue};
 
 use crate::failed::Failed;
@@ -82,12 +83,12 @@ pub fn ask_chain<'a>(
     Ok(Chain { set, item })
 }
 
-// The key item of set s; 0 for a set that the root doesn't have, and for a detail.
-fn key_of(root: &[u16], s: u16) -> u16 {
+// The key item of set s; none for a set that the root doesn't have, and for a detail, whose word for it is 0.
+fn key_of(root: &[u16], s: u16) -> Option<u16> {
     if has_set(root, s) {
-        root::key_item(root, s)
+        Some(root::key_item(root, s)).filter(|item| *item != 0)
     } else {
-        0
+        None
     }
 }
 
@@ -105,7 +106,11 @@ pub fn ask_get<'a>(
             record = rest.long("the record")?;
             rest.end()?;
         }
-        7 => ask_value(root, key_of(root, set), &mut rest, key)?,
+        7 => {
+            if let Some(item) = key_of(root, set) {
+                ask_value(root, item, &mut rest, key)?;
+            }
+        }
         _ => rest.end()?,
     }
     Ok(Get { set, mode, record })

@@ -27,7 +27,7 @@ pub const FORWARD: u16 = 5;
 
 pub const BACKWARD: u16 = 6;
 
-// An entry that was read, after its record.
+// An entry that was read, after its record. No Display: an entry's texts are written as bytes.
 fn say_read<W: Write>(
     writer: &mut W,
     root: &[u16],
@@ -65,6 +65,7 @@ impl Desk {
     pub fn get<'a, W: Write>(&mut self, writer: &mut W, rest: Rest<'a>) -> Result<(), Failed<'a>> {
         let mut key = Vec::new(self.alloc);
         let Get { set, mode, record } = ask_get(&self.root, rest, &mut key)?;
+        // The engine writes into room that it is lent; 512 words are the longest entry.
         let mut entry = [0u16; 512];
         let answer = engine::get(
             &self.root,
@@ -91,6 +92,7 @@ impl Desk {
         set: u16,
         mode: u16,
     ) -> io::Result<Option<Session>> {
+        // Lent as in `get`.
         let mut entry = [0u16; 512];
         let answer = engine::get(&self.root, &self.area, s, set, mode, 0, &[], &mut entry);
         match Status(answer.status).accepted() {
@@ -99,6 +101,7 @@ impl Desk {
                 say_read(writer, &self.root, set, status, &entry)?;
                 Ok(Some(answer.session))
             }
+            // The chain's two ends, as numbers: so the C interface's status word has them.
             Err(Refused(14 | 15)) => Ok(None),
             Err(refused) => {
                 writeln!(writer, " {refused}")?;
@@ -130,7 +133,7 @@ impl Desk {
         Ok(())
     }
 
-    // The lines passed on each sorted path of set s.
+    // The lines passed on each sorted path of set s. No Display: it is told of the root and an answer together.
     fn say_passed<W: Write>(&self, writer: &mut W, s: u16, passed: [u16; 4]) -> io::Result<()> {
         if s == 0 {
             return Ok(());

@@ -109,7 +109,7 @@ impl Desk {
             Command::Help => write!(writer, "{HELP}")?,
             Command::Sets => screen::sets(writer, &self.root, &self.area)?,
             Command::Map => screen::map(writer, &self.root, &self.area, ask_set(rest)?)?,
-            Command::Status => self.say_status(writer)?,
+            Command::Status => writeln!(writer, "{}", self.status)?,
             Command::Cursors => self.say_cursors(writer)?,
             Command::Save => self.save(rt, writer, file_name(rest)?)?,
             Command::Find => self.find(writer, rest)?,

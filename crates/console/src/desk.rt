@@ -2,8 +2,8 @@
 use screen::Refused;
 use session::Session;
 use std::alloc::{AllocError, Global};
-use std::io;
 use std::io::Write;
+use std::{fmt, io};
 use words::{lay, long_at, word};
 
 // The ten status words of a call.
@@ -43,6 +43,21 @@ impl Status {
     }
 }
 
+// The ten words, told one by one.
+impl fmt::Display for Status {
+    fn fmt<W: fmt::Write>(&self, f: &mut fmt::Formatter<W>) -> fmt::Result {
+        match self.accepted() {
+            Ok(_) => writeln!(f, "accepted, 0")?,
+            Err(refused) => writeln!(f, "{refused}")?,
+        }
+        writeln!(f, "  entry length             {}", self.size())?;
+        writeln!(f, "  record                   {}", self.record())?;
+        writeln!(f, "  lines or synonyms        {}", self.number())?;
+        writeln!(f, "  saved back               {}", self.back())?;
+        write!(f, "  saved forward            {}", self.fore())
+    }
+}
+
 #[derive(Drop)]
 pub struct Desk {
     pub alloc: Global,
@@ -76,21 +91,7 @@ impl Desk {
         Ok(Desk::new(alloc, root, vec![in alloc; 0; 173]?))
     }
 
-    // The ten status words of the last call, told one by one.
-    pub fn say_status<W: Write>(&self, writer: &mut W) -> io::Result<()> {
-        let status = self.status;
-        match status.accepted() {
-            Ok(_) => writeln!(writer, "accepted, 0")?,
-            Err(refused) => writeln!(writer, "{refused}")?,
-        }
-        writeln!(writer, "  entry length             {}", status.size())?;
-        writeln!(writer, "  record                   {}", status.record())?;
-        writeln!(writer, "  lines or synonyms        {}", status.number())?;
-        writeln!(writer, "  saved back               {}", status.back())?;
-        writeln!(writer, "  saved forward            {}", status.fore())
-    }
-
-    // The cursor of each set of the root.
+    // The cursor of each set of the root. No Display: it is told of the root and the cursors together.
     pub fn say_cursors<W: Write>(&self, writer: &mut W) -> io::Result<()> {
         let sets = root::sets(&self.root[..]).min(16) as usize;
         for (i, c) in self.session.cursors[..sets].iter().enumerate() {

@@ -69,7 +69,7 @@ impl<'a> From<AllocError> for Failed<'a> {
 }
 
 impl Failed<'_> {
-    // One line of it; what the system says ends the console.
+    // One line of it; what the system says ends the console. No Display: a person's word or file name need not be text.
     pub fn tell<W: Write>(self, writer: &mut W) -> io::Result<()> {
         match self {
             Failed::NoCommand(word) => {

@@ -43,9 +43,10 @@ impl<I: Read> Source<I> {
     }
 
     // The next line, of one that is too long no more than shows it; whether there is one. A byte at a time, so that nothing of
-    // the line after it is taken.
+    // the line after it is taken. It gives no line of its own: one buffer serves them all.
     fn read_line(&mut self, line: &mut Vec<u8>) -> Result<bool, AllocError> {
         line.clear();
+        // Counted, since a loop that could go on for ever is refused; the input ends it.
         for _ in 0..u64::MAX {
             match self.read_byte() {
                 Some(b'\n') => return Ok(true),
@@ -113,6 +114,7 @@ impl<I: Read> Source<I> {
             writer,
             "Maltorhu, on the sample base of three sets, empty. help tells the commands."
         )?;
+        // Counted as well; the last line or the person ends it.
         for _ in 0..u64::MAX {
             self.prompt(writer)?;
             if !self.read_line(&mut line)? {

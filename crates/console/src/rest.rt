@@ -12,6 +12,7 @@ pub struct Complaint<'a> {
 }
 
 impl Complaint<'_> {
+    // No Display: the person's word is shown byte by byte, and need not be text.
     pub fn tell<W: Write>(&self, writer: &mut W) -> io::Result<()> {
         write!(writer, "{}", self.what)?;
         match self.text {
@@ -32,7 +33,8 @@ fn long_of<'a>(what: &'static str, text: Option<&'a [u8]>) -> Result<u32, Compla
         .ok_or(Complaint { what, text, wanted })
 }
 
-// A word as a number that fits a word.
+// A word as a number that fits a word. Not one function with `long_of` over the number's type: what is wanted is told otherwise, and
+// would be handed in beside it.
 pub fn word_of<'a>(what: &'static str, text: Option<&'a [u8]>) -> Result<u16, Complaint<'a>> {
     let wanted = "a number from 0 to 65535 is wanted";
     text.and_then(|word| number_of(word))

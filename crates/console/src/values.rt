@@ -36,6 +36,7 @@ fn number(text: &[u8], item: Item) -> Option<u32> {
     }
 }
 
+// (Each says by how much the words grow: no type of a Vec can.)
 fn take_number<'a>(item: Item, rest: &mut Rest<'a>, out: &mut Vec<u16>) -> Result<(), Failed<'a>>
     ensures { OnOk result (vec_len out.new ≤ vec_len out.old + 2) }
 {
@@ -68,6 +69,7 @@ fn take_text<'a>(item: Item, rest: &mut Rest<'a>, out: &mut Vec<u16>) -> Result<
         let text = Some(text);
         return Err(Failed::from(Complaint { what, text, wanted }));
     }
+    // `pack` writes into room that it is lent; 32 words are the longest item.
     let mut room = [0u16; 32];
     lent::pack(text, &mut room);
     out.extend_from_slice(&room[..size.min(32)])?;

@@ -1,5 +1,6 @@
 // Put, update and delete on a detail set with its cursor, up to their outcome. Where the outcome is a refusal, the area is as it
-// was.
+// was. (Area, cursor and entry are what the definitions
+// take.)
 #![tactic(auto)]
 
 ghost use Rattle.std.specs.Prelude.{◌≡◌, [], IfErr, ◌≤◌, ◌&&◌};
@@ -19,7 +20,8 @@ use session::Good;
 use sound::Entry;
 use spec::{Cursor, Links, Refusal, Shape};
 
-// A line's links on a path; none on path 0.
+// A line's links on a path, as they stand (a get reads them whole); none on path 0. (The path is that of a cursor that fits: see
+// `named`.)
 #[tactic(auto, unfolding(spec::specs::Cursor::saved_links, spec::specs::Layout::links_of))]
 fn saved_links(area: &[u16], d: Shape, path: u32, r: u32) -> Links
     requires { path ≤ 4 }

@@ -1,5 +1,6 @@
 // The six calls. Each answers, for arbitrary words of root, area, cursors, entry and value, exactly what its definition in the
-// crate spec works out from them; none has a `requires`, and none leaves room for a second answer.
+// crate spec works out from them; none has a `requires`, and none leaves room for a second answer. (What they take, a mode as a
+// number among it, is what they promise to take.)
 #![tactic(auto)]
 
 ghost use Rattle.std.specs.Prelude.{◌≡◌};

@@ -1,5 +1,6 @@
 // "Master steps", the readings: the primary address, find along the synonym chain, the search for an unused record, and what a
-// put and a delete read before they write.
+// put and a delete read before they write. (That a record's number is above 0 is promised where it is told, and so stands in clauses
+// here and above.)
 #![tactic(auto)]
 
 ghost use Rattle.std.specs.Prelude.{◌≡◌, true, cond, IfOk, ◌+◌, ◌-◌, ◌*◌, ◌%◌, ◌≤◌, ◌<◌, ◌^◌, length};
@@ -78,7 +79,7 @@ fn primary_of(area: &[u16], m: SoundMaster, r: u32) -> Result<u32, Refusal>
     Ok(p)
 }
 
-// Along the synonym chain from record r on, at most n records; 0 where none has the key.
+// Along the synonym chain from record r on, at most n records; 0 where none has the key (here and below the definitions have it so).
 #[tactic(auto, using(crate::proofs::Laws::walk_end, crate::proofs::Laws::walk_long, crate::proofs::Laws::walk_here, crate::proofs::Laws::walk_next))]
 fn find_along(area: &[u16], m: Master, key: &[u16], n: u16, r: u32) -> Result<u32, Refusal>
     ensures { result ≡ find_along m area.now key.now n r }
@@ -127,7 +128,7 @@ pub fn find_key(area: &[u16], m: SoundMaster, key: &[u16]) -> Result<u32, Refusa
 
 // "wrapping past C to 1"
 fn next_up(cap: u16, r: u32) -> u32
-    ensures { (result ≡ next_up cap r) × (1 ≤ result) }
+    ensures { result ≡ next_up cap r }
 {
     if r < (cap as u32) { r + 1 } else { 1 }
 }
@@ -190,7 +191,8 @@ pub fn named_by(area: &[u16], m: SoundMaster, h: u32, y: Head) -> Result<u32, Re
     }
 }
 
-// "Heads are read one by one, and a delete stops reading them at the first count that isn't 0": whether all are 0.
+// "Heads are read one by one, and a delete stops reading them at the first count that isn't 0": whether all are 0. (Of a
+// slice, which is the definition's list: of an ArrayVec the clause would name the inside.)
 #[tactic(auto, using(crate::proofs::Laws::heads_end, crate::proofs::Laws::heads_some))]
 pub fn no_lines(area: &[u16], s: Shape, r: u32, heads: &[u16]) -> Result<bool, Refusal>
     requires { length heads.now ≤ 8 }

@@ -11,7 +11,7 @@ use words::{high, lay, lay_zeros, low, part, put_word, word};
 
 // The area that a call writes as if on a copy, and what the call overwrote, in a lent room: for each word its place and what stood
 // there, as one number. A journal that has no room left takes no more, and then can't be rewound (a call that refuses before it
-// writes lends an empty room).
+// writes lends an empty room). The room is lent, and no ArrayVec, so that it is as large as the paths need.
 #[derive(Drop)]
 pub struct Journal<'a> {
     area: &'a mut [u16],
@@ -121,7 +121,8 @@ impl<'a> Journal<'a> {
         self.store_run(to, &Entry { words: taken });
     }
 
-    // The area as it was before the stores that the journal has.
+    // The area as it was before the stores that the journal has. (`lent`, here and where a journal is handed on: a caller knows by that
+    // clause alone that its area is the one that was written.)
     #[tactic(auto, using(crate::proofs::Laws::rewind_end, crate::proofs::Laws::rewind_turn))]
     pub fn rewind(&mut self)
         ensures lent { self.new.area.ghost_name ≡ self.old.area.ghost_name }

@@ -23,7 +23,7 @@ struct Judged<'a> {
     ghost counted: { Counted root.words.now counts } by { Prim.hlevel props },
 }
 
-// A set of a root that keeps its rules, by its number: what its words say.
+// A set of a root that keeps its rules, by its number: what its words say. (The one of `rules` is of a root that is still judged.)
 #[derive(Clone, Copy)]
 pub struct RuledSet<'a> {
     pub root: Stated<'a>,

@@ -16,7 +16,8 @@ use root::{ItemType, Kind, Plan, Stated};
 use sound::{SoundMaster, SoundPath};
 use spec::{Field, Master, Path, Shape};
 
-// A root that keeps its rules, with what is counted from it once.
+// A root that keeps its rules, with what is counted from it once. (`Stated { words: .. }` stands where it is read: with a method that
+// gives it the proofs don't close.)
 #[derive(Drop)]
 pub struct Root<'a> {
     pub words: &'a [u16],
@@ -154,7 +155,7 @@ impl<'a> Set<'a> {
     }
 
     // The place of one of its items in the entry: behind the items before it. Items differ, so the first that is found is the
-    // only one.
+    // only one. (That it is within the entry's length is told by a clause: a Field can't name that length.)
     #[tactic(auto, unfolding(spec::specs::Layout::field_of), using(crate::proofs::Good::good_root, root::specs::Sizes::items_fit, root::specs::Sizes::field_inside, root::specs::Good::item_of, crate::proofs::ViewRules::number_low, crate::proofs::ViewRules::number_high, crate::proofs::ViewRules::number_few, crate::proofs::ViewRules::number_past, crate::proofs::ViewRules::number_only, crate::proofs::ViewRules::item_short, crate::proofs::ViewRules::items_none, crate::proofs::ViewRules::items_more))]
     fn field_of(&self, item: u16) -> Field
         requires { has_item self.now.root.now.words.now self.now.number item ≡ true }

@@ -52,7 +52,7 @@ pub fn link_out(jr: &mut Journal, d: Shape, p: SoundPath, k: u32, h: Head, l: Li
     old_ends(jr, p, k, l);
 }
 
-// "drop an automatic entry whose head counts are then all 0"
+// "drop an automatic entry whose head counts are then all 0" (of a slice, as `no_lines`)
 #[tactic(auto, unfolding(spec::specs::Detail::drop_empty, spec::specs::Master::without_lines), using(spec::specs::Follow::goes, spec::specs::Follow::stops, journal::specs::BackLaws::back_none))]
 pub fn drop_empty(jr: &mut Journal, m: SoundMaster, heads: &[u16], k: u32) -> Result<(), Refusal>
     requires { length heads.now ≤ 8 }

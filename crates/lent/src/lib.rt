@@ -23,12 +23,14 @@ fn cursor_of_words(words: &[u32], at: usize) -> Cursor
 }
 
 // "for each of 16 sets current record, current path, saved back, saved forward"
+// A slice, as `put_session` takes it: an array here alone would be one more conversion at each of five calls.
 #[tactic(auto, using(crate::proofs::Laws::cursors_start, crate::proofs::Laws::cursors_more, crate::proofs::Laws::cursors_end))]
 pub fn session_of(words: &[u32]) -> Session
     requires { 64 ≡ length words.now }
     ensures { result.cursors ≡ cursors_of words.now }
 {
     let mut session = Session::default();
+    // By the place: in a `zip` with the parts of `words` the proof does not learn what `iter_mut` lends to be written.
     for (i, cursor) in session.cursors.iter_mut().enumerate() {
         *cursor = cursor_of_words(words, 4 * i);
     }
@@ -48,11 +50,13 @@ fn put_cursor(words: &mut [u32], at: usize, c: Cursor)
     words[at + 3] = c.fore;
 }
 
+// A slice: what is written through a `&mut [u32; 64]` made of one is not proved to be in the slice.
 #[tactic(auto, using(crate::proofs::Laws::session_start, crate::proofs::Laws::session_more, crate::proofs::Laws::session_end))]
 pub fn put_session(words: &mut [u32], s: Session)
     requires { 64 ≡ length words.old }
     ensures { words.new ≡ session_words s.cursors }
 {
+    // By the place: through `chunks_exact_mut` the proof does not learn which elements were written.
     for (i, cursor) in s.cursors.iter().enumerate() {
         put_cursor(words, 4 * i, *cursor);
     }
@@ -71,6 +75,7 @@ pub fn pack(text: &[u8], words: &mut [u16])
     requires { length words.old < 2305843009213693952 }
     ensures { words.new ≡ packed (length words.old) text.now }
 {
+    // By the place: a `zip` with the text's pairs ends at the text's end, and leaves no blanks past it.
     for (i, word) in words.iter_mut().enumerate() {
         let high = character(text, 2 * i);
         let low = character(text, 2 * i + 1);
@@ -84,6 +89,7 @@ pub fn unpack(words: &[u16], text: &mut [u8])
     requires { 2 * length words.now ≤ length text.old }
     ensures { text.new ≡ unpacked words.now text.old }
 {
+    // By the place: through `chunks_exact_mut` the proof does not learn which elements were written.
     for (i, word) in words.iter().enumerate() {
         let [high, low] = word.to_be_bytes();
         text[2 * i] = high;

@@ -6,14 +6,15 @@ ghost use Rattle.std.specs.Iterator.{at_most};
 ghost use Rattle.std.specs.List.{list_all, prefix_len, zip};
 ghost use Rattle.lines.specs.Lines.{blank, letter, other, upper_case, alike, number, FindsWord};
 
-// From the first byte of a word to the byte past its last.
+// From the first byte of a word to the byte past its last. (Places, and no slice: who reads on does so from the end.)
 #[derive(Clone, Copy)]
 pub struct Word {
     pub at: usize,
     pub end: usize,
 }
 
-// How many bytes other than b stand first.
+// How many bytes other than b stand first. (Not one function with the next two over a test: it would promise no number, only what the
+// test says. That it is within the text is a clause: a number can't name the text.)
 fn others(text: &[u8], b: u8) -> usize
     ensures value { result ≡ prefix_len (other b) text.now }
     ensures upper_bound { result ≤ length text.now }
@@ -37,7 +38,7 @@ fn letters(text: &[u8]) -> usize
     text.iter().take_while(|b| 32 < **b).count()
 }
 
-// The place of the next byte b at a place or after it; the line's end where there is none.
+// The place of the next byte b at a place or after it; the line's end where there is none (a count that its clause gives).
 pub fn place_of(line: &[u8], from: usize, b: u8) -> usize
     requires { from ≤ length line.now }
     ensures value { result ≡ from + prefix_len (other b) (drop from line.now) }
@@ -46,8 +47,8 @@ pub fn place_of(line: &[u8], from: usize, b: u8) -> usize
     from + others(&line[from..], b)
 }
 
-// The next word at a place or after it; where none is left, an empty one at the line's end. Everything that isn't a blank is a
-// letter of a word.
+// The next word at a place or after it; where none is left, an empty one at the line's end (as the counts have it). Everything that
+// isn't a blank is a letter of a word.
 pub fn next_word(line: &[u8], from: usize) -> Word
     requires { from ≤ length line.now }
     ensures at_value { result.at ≡ from + prefix_len blank (drop from line.now) }
@@ -110,7 +111,8 @@ pub fn number_of(word: &[u8]) -> Option<u32>
     Some(value)
 }
 
-// A small letter as its capital. (By hand: the wrong program that takes a brace for a letter changes this arm.)
+// A small letter as its capital. (By hand, with `letters_alike` and `is_word`: the wrong program that takes a brace for a letter is
+// one of this arm.)
 fn upper_case(b: u8) -> u8
     ensures { result ≡ upper_case b }
 {

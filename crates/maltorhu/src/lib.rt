@@ -1,6 +1,6 @@
-// The C interface. A slice passes as a pointer and a count; cursors are 64 numbers, four a set; status has ten words. A function
-// returns 0 if the call was worked (the status tells how it went) and 1 if cursors, status or passed do not have their lengths:
-// then nothing is written.
+// The C interface, which fixes each function's arguments: cursors and status, one beside the other, as slices. A slice passes as
+// a pointer and a count; cursors are 64 numbers, four a set; status has ten words. A function returns 0 if the call was worked
+// (the status tells how it went) and 1 if cursors, status or passed do not have their lengths: then nothing is written.
 #![tactic(auto)]
 
 ghost use Rattle.std.specs.Prelude.{◌≡◌, length};
@@ -35,6 +35,7 @@ fn is_right(cursors: &[u32], status: &[u16]) -> bool
 }
 
 // The cursors and the status that a call answers. Inlined, the answer is not copied once more.
+// The lengths are `requires`: the host's slices stay slices here, as an array made of one is not proved to write back to it.
 #[inline(always)]
 fn give_back(cursors: &mut [u32], status: &mut [u16], a: Answer)
     requires { (64 ≡ length cursors.old) × (10 ≡ length status.old) }

@@ -1,8 +1,9 @@
 // Put, update and delete on a master set with its cursor, up to their outcome. Where the outcome is a refusal, the area is as it
-// was: each step reads before it writes, so no journal is kept (one without room is lent).
+// was: each step reads before it writes, so no journal is kept (one without room is lent). (Area, cursor and entry are what the definitions
+// take.)
 #![tactic(auto)]
 
-ghost use Rattle.std.specs.Prelude.{◌≡◌, [], ◌≤◌, IfOk, IfErr};
+ghost use Rattle.std.specs.Prelude.{◌≡◌, [], IfErr};
 ghost use Rattle.spec.specs.Layout.{a_master, master_of, heads_of};
 ghost use Rattle.spec.specs.Area.{put_entry_at};
 ghost use Rattle.spec.specs.Calls.{put_master as put_whole, put_on, keeps, update_on, delete_master as delete_whole, delete_on};
@@ -42,7 +43,6 @@ fn tell(area: &[u16], m: Master, c: Cursor, r: u32) -> Good
 #[tactic(auto, unfolding(spec::specs::Calls::put_master), using(spec::specs::Follow::goes, spec::specs::Follow::stops))]
 fn enter(area: &mut [u16], m: SoundMaster, entry: &Entry) -> Result<u32, Refusal>
     ensures is { line_out result area.new ≡ put_whole m area.old entry.now }
-    ensures low { IfOk result (λ r. 1 ≤ r) }
     ensures kept { Unwritten result area.old area.new }
 {
     let key = entry.value(m.plain.key);

@@ -60,7 +60,7 @@ fn end_of(h: u32, y: Head) -> u32
 }
 
 // "Held by a primary": the new entry's record f joins the end of the chain of h, whose synonym words are y. (They were read whole, so
-// the count can be raised; a type that says so would be taken apart by its only reader.)
+// the count can be raised; a type that says so would be taken apart by its readers.)
 #[tactic(auto, unfolding(spec::specs::Master::join), using(spec::specs::Follow::goes, spec::specs::Follow::stops, journal::specs::BackLaws::back_then, journal::specs::BackLaws::back_more, journal::specs::BackLaws::back_none))]
 fn join(
     jr: &mut Journal,
@@ -153,7 +153,7 @@ fn displace(
     Ok(h)
 }
 
-// At a live address h with synonym words y; f is the first unused record, 0 where there is none.
+// At a live address h with synonym words y; f is the first unused record, 0 where there is none (the definition has it so).
 #[tactic(auto, unfolding(spec::specs::Master::put_held), using(journal::specs::BackLaws::back_more, journal::specs::BackLaws::back_none))]
 fn put_held(
     jr: &mut Journal,

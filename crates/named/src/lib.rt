@@ -69,7 +69,7 @@ impl<'a> Named<'a> {
     }
 }
 
-// −21: "no such set"
+// −21: "no such set" (that its number is one of sixteen is what the calls' steps promise)
 #[tactic(auto, using(std::proofs::lemmas::Bool::Decides::nat_tests, crate::proofs::Laws::few_sets), unfolding(crate::specs::Named::set_named, spec::specs::Layout::view_of))]
 pub fn name_set<'a>(root: &'a Root<'a>, set: u16) -> Result<Named<'a>, Refusal>
     ensures is { set_out result ≡ set_named root.now.words.now set }

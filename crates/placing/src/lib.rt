@@ -76,7 +76,6 @@ pub fn take_record(area: &[u16], s: Shape) -> Result<Taken, Refusal>
 #[tactic(auto, unfolding(spec::specs::Detail::missing, crate::specs::Answers::entry_room), using(journal::specs::BackLaws::back_none))]
 fn missing(jr: &mut Journal, p: SoundPath, i: u8, key: &Entry) -> Result<u32, Refusal>
     ensures is { put_out result jr.new.area.now ≡ missing p i jr.old.area.now key.now }
-    ensures low { IfOk result (λ k. 1 ≤ k) }
     ensures back { Back jr.old (entry_room p (length key.now)) jr.new }
 {
     if p.plain.to.auto {
@@ -90,7 +89,6 @@ fn missing(jr: &mut Journal, p: SoundPath, i: u8, key: &Entry) -> Result<u32, Re
 #[tactic(auto, unfolding(spec::specs::Detail::master_entry, crate::specs::Answers::entry_room), using(spec::specs::Follow::goes, spec::specs::Follow::stops, journal::specs::BackLaws::back_none))]
 fn master_entry(jr: &mut Journal, p: SoundPath, i: u8, key: &Entry) -> Result<u32, Refusal>
     ensures is { put_out result jr.new.area.now ≡ master_entry p i jr.old.area.now key.now }
-    ensures low { IfOk result (λ k. 1 ≤ k) }
     ensures back { Back jr.old (entry_room p (length key.now)) jr.new }
 {
     let k = find_key(jr.area(), p.to(), key.words)?;
@@ -209,7 +207,7 @@ fn own_links(jr: &mut Journal, d: Shape, p: SoundPath, r: u32, t: Spot)
     mend(jr, d, r, p.plain.links + 2, t.ahead);
 }
 
-// The head of the chain in record k: its count raised, which was read whole, and its ends.
+// The head of the chain in record k: its count raised, and its ends. (It was read whole, so it can be raised: see `master_put`.)
 #[tactic(auto, unfolding(spec::specs::Area::set_head_count), using(journal::specs::BackLaws::back_two))]
 fn raise_head(jr: &mut Journal, p: SoundPath, k: u32, count: u16, r: u32, t: Spot)
     requires { count ≤ 65000 }
@@ -232,7 +230,8 @@ fn link_in(jr: &mut Journal, d: Shape, p: SoundPath, k: u32, h: Head, r: u32, t:
     own_links(jr, d, p, r, t);
 }
 
-// The chain's head in record k of the master, the line's place, and its links.
+// The chain's head in record k of the master, the line's place, and its links. (The detail's capacity bounds the count that is
+// raised; it is asked, since the shape is the definitions' own.)
 #[tactic(auto, unfolding(spec::specs::Detail::place_line, spec::specs::Detail::head_at), using(spec::specs::Follow::goes, spec::specs::Follow::stops, journal::specs::BackLaws::back_none))]
 fn place_line(
     jr: &mut Journal,

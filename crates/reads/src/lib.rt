@@ -97,7 +97,8 @@ fn find_on(d: &DetailSet, area: &[u16], item: u16, value: &[u16]) -> Result<Good
     find_chain(&path, area, value)
 }
 
-// Find: −91, −92, −21, −93, then the chain.
+// Find: −91, −92, −21, −93, then the chain. (Here and in get: what is taken is what the call takes, and a set's number is
+// promised.)
 #[tactic(auto, unfolding(spec::specs::Calls::find_steps, spec::specs::Calls::named_set, spec::specs::Calls::the_detail, named::specs::Named::set_named), using(layout::specs::Known::known_by_length))]
 pub fn find_steps(
     words: &[u16],
@@ -178,7 +179,7 @@ fn live_above(area: &[u16], s: Shape, from: u32) -> u32
     0
 }
 
-// Whether the 16 records down from r are a word of the map and all unused.
+// Whether the 16 records down from r are a word of the map and all unused: the mirror image.
 fn empty_down(area: &[u16], s: Shape, r: u32) -> bool
     ensures { result ≡ true → EmptyDown s area.now r }
 {
@@ -188,7 +189,8 @@ fn empty_down(area: &[u16], s: Shape, r: u32) -> bool
     word_alike(area, s, r - 15, false)
 }
 
-// "highest live below current"; 0 where there is none, as above. An empty word of the map is passed at once. (A while loop, as above.)
+// "highest live below current"; 0 where there is none, as above. An empty word of the map is passed at once. (A while loop, as above,
+// and its mirror image: the definitions are two.)
 #[tactic(auto, unfolding(spec::specs::Cursor::live_down), using(crate::proofs::Laws::down_word, crate::proofs::Laws::down_next))]
 fn live_down(area: &[u16], s: Shape, from: u32) -> u32
     ensures { result ≡ live_down s area.now from }
@@ -318,7 +320,7 @@ impl<'a> Reading<'a> {
     }
 }
 
-// The links on a path, read whole; none on path 0.
+// The links on a path, read whole; none on path 0. (The path is that of a cursor that fits: see `named`.)
 #[tactic(auto, unfolding(spec::specs::Cursor::links_readable, spec::specs::Cursor::saved_links, spec::specs::Area::peek_links), using(area::specs::AreaLaws::links_fit))]
 fn links_on(area: &[u16], d: Shape, path: u32, r: u32) -> Result<Links, Refusal>
     requires { path ≤ 4 }
@@ -382,7 +384,7 @@ fn get_on(named: &Named, area: &[u16], c: Cursor, asked: Asked) -> Result<Got, R
     })
 }
 
-// Get: −91, −92, −21, −93, then the record.
+// Get: −91, −92, −21, −93, then the record. (The mode is a number: the call has it so.)
 #[tactic(auto, unfolding(spec::specs::Calls::get_steps, spec::specs::Calls::named_set, named::specs::Named::set_named, named::specs::Named::cursor_named), using(layout::specs::Known::known_by_length))]
 pub fn get_steps(
     words: &[u16],

@@ -98,6 +98,8 @@ impl<'a> Readable for Stated<'a> {
     }
 }
 
+// (One reader for each word, under its definition's name: one reader of a place would leave the names to be written over it again.)
+
 // "Word 1: items, 1..64."
 #[tactic(auto, unfolding(spec::specs::Root::items))]
 pub fn items<R: Readable>(root: R) -> u16
@@ -229,7 +231,8 @@ pub fn path_sort<R: Readable>(root: R, s: u16, p: u16) -> u16
 
 // What is counted from a root once. For set s, at s - 1: the paths leading to it, the words of its entry, and its start in
 // the area. For path p of set s, at 4 (s - 1) + p - 1: the number of its head among those of its master. (Four arrays: a set's paths are
-// counted while other sets are judged, and its start when all are, so an array of records would be filled a field at a time.)
+// counted while other sets are judged, and its start when all are, so an array of records would be filled a field at a time. The counts of
+// `rules` are the first three: no start is known before all are.)
 #[derive(Clone, Copy)]
 pub struct Plan {
     pub leads: [u16; 16],

@@ -76,6 +76,8 @@ fn blank(root: Stated, at: usize, n: usize) -> bool
     }
 }
 
+// (What is known of a root half judged, of its items, its paths' heads and the numbers within it, is told by clauses: a type for each
+// stage would be made anew at each item, set and path.)
 impl<'a> Set<'a> {
     // "a set's items exist and differ": the j-th, if it does, beside those before it.
     #[tactic(auto, using(std::proofs::lemmas::Bool::Decides::nat_tests), unfolding(spec::specs::Root::item_listed, crate::specs::Rules::Holds))]

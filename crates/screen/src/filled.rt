@@ -47,7 +47,7 @@ fn shape(root: &[u16], s: u16) -> Option<Shape> {
 }
 
 impl<'a> ListedSet<'a> {
-    // Its items, each with its type and length.
+    // Its items, each with its type and length. No Display, here and below: a set is shown in parts, and with its area.
     fn say_items<W: Write>(&self, writer: &mut W) -> io::Result<()> {
         for j in 1..=item_count(self.root, self.number) {
             let Item { number, kind, size } = self.item(j);

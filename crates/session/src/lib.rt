@@ -37,7 +37,7 @@ pub struct Good {
 }
 
 impl Default for Session {
-    // "fresh is all 0"
+    // "fresh is all 0" (by hand, for its clause)
     fn default() -> Session
         ensures { result.cursors ≡ replicate 16 fresh }
     {
