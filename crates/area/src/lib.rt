@@ -169,7 +169,7 @@ pub fn blank(jr: &mut Journal, s: Shape, r: u32, i: u16, len: u16)
     ensures is { jr.new.area.now ≡ blank s jr.old.area.now r i len }
     ensures back { Back jr.old len jr.new }
 {
-    jr.store_zeros(place_in(s, r, i), len);
+    jr.store_zeros(place_in(s, r, i).at, len as usize);
 }
 
 // An item of the entry in record r, and the whole entry.
@@ -208,7 +208,7 @@ pub fn carry_part(jr: &mut Journal, s: Shape, from: u32, to: u32, i: u16, len: u
     ensures back { Back jr.old len jr.new }
 {
     let at = place(s, from) + (i as usize);
-    jr.store_moved(at, place_in(s, to, i), len);
+    jr.store_moved(at, place_in(s, to, i).at, len as usize);
 }
 
 // A set's two leading words.

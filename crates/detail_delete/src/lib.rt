@@ -39,7 +39,7 @@ fn unhang(path: &SetPath, jr: &mut Journal, p: SoundPath, k: u32, r: u32) -> Res
     ensures back { Back jr.old (path_room p) jr.new }
 {
     let g = hung_on(jr.area(), path.set.shape, p.plain, k, r)?;
-    link_out(jr, path.set.shape, p, k, g.head, g.links);
+    link_out(jr, path.set.shape, p.placed(), k, g.head, g.links);
     drop_automatic(path, jr, p.to(), k)
 }
 
@@ -103,13 +103,24 @@ pub fn delete_line(d: &DetailSet, area: &mut [u16], r: u16) -> Result<(), Refusa
     ensures kept { IfErr result (λ _. area.new ≡ area.old) }
 {
     if d.path_count() <= 2 {
-        delete_by(d, area, &mut [0; 346], r)
+        delete_within::<346>(d, area, r)
     } else {
-        delete_by(d, area, &mut [0; 692], r)
+        delete_within::<692>(d, area, r)
     }
 }
 
-// The same by a journal with room for it.
+// The same in a room of N words. (Not inlined: a frame has one room, and not both.)
+#[inline(never)]
+fn delete_within<const N: usize>(d: &DetailSet, area: &mut [u16], r: u16) -> Result<(), Refusal>
+    requires enough { 173 * path_count d.now.root.now.words.now d.now.number ≤ N }
+    requires few { N ≤ 692 }
+    ensures is { area_out result area.new ≡ delete_line (detail_of d.now.root.now.words.now d.now.number) area.old r }
+    ensures kept { IfErr result (λ _. area.new ≡ area.old) }
+{
+    delete_by(d, area, &mut [0; N], r)
+}
+
+// The same by a journal over a room that is lent.
 #[tactic(auto, using(journal::specs::BackLaws::back_start))]
 fn delete_by(d: &DetailSet, area: &mut [u16], room: &mut [u64], r: u16) -> Result<(), Refusal>
     requires { 173 * path_count d.now.root.now.words.now d.now.number ≤ length room.old }

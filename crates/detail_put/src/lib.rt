@@ -30,7 +30,14 @@ fn put_at(path: &SetPath, jr: &mut Journal, r: u32, entry: &Entry) -> Result<u16
     ensures is { placed_out result jr.new.area.now ≡ path_at path.now.set.now.root.now.words.now path.now.set.now.number path.now.number jr.old.area.now r entry.now }
     ensures back { Back jr.old 173 jr.new }
 {
-    put_path(jr, path.set.shape, path.path(), path.number as u8, r, entry)
+    put_path(
+        jr,
+        path.set.sound(),
+        path.path(),
+        path.number as u8,
+        r,
+        entry,
+    )
 }
 
 // "Then paths 1 upward": the lines passed on each.
@@ -68,13 +75,31 @@ pub fn put_line(d: &DetailSet, area: &mut [u16], entry: &Entry) -> Result<Line, 
 {
     let t = take_record(area, d.shape)?;
     if d.path_count() <= 2 {
-        put_taken(d, area, &mut [0; 346], t, entry)
+        put_within::<346>(d, area, t, entry)
     } else {
-        put_taken(d, area, &mut [0; 692], t, entry)
+        put_within::<692>(d, area, t, entry)
     }
 }
 
-// The same with the record taken, by a journal with room for it.
+// The same with the record taken, in a room of N words. (Not inlined: a frame has one room, and not both.)
+#[inline(never)]
+fn put_within<const N: usize>(
+    d: &DetailSet,
+    area: &mut [u16],
+    t: Taken,
+    entry: &Entry,
+) -> Result<Line, Refusal>
+    requires taken { 1 ≤ t.at }
+    requires enough { 173 * path_count d.now.root.now.words.now d.now.number ≤ N }
+    requires few { N ≤ 692 }
+    ensures is { line_out result area.new ≡ put_taken (detail_of d.now.root.now.words.now d.now.number) t area.old entry.now }
+    ensures kept { IfErr result (λ _. area.new ≡ area.old) }
+    ensures low { IfOk result (λ l. 1 ≤ l.at) }
+{
+    put_taken(d, area, &mut [0; N], t, entry)
+}
+
+// The same by a journal over a room that is lent.
 #[tactic(auto, unfolding(spec::specs::Detail::put_taken, spec::specs::Layout::detail_of), using(spec::specs::Follow::goes, spec::specs::Follow::stops, journal::specs::BackLaws::back_start))]
 fn put_taken(
     d: &DetailSet,

@@ -10,31 +10,47 @@ use sound::{Entry, Place};
 use words::{high, lay, lay_zeros, low, part, put_word, word};
 
 // The area that a call writes as if on a copy, and what the call overwrote, in a lent room: for each word its place and what stood
-// there, as one number. A journal that has no room left takes no more, and then can't be rewound (a call that refuses before it
-// writes lends an empty room). The room is lent, and no ArrayVec, so that it is as large as the paths need.
+// there, as one number, and how many of them there are. A journal that has no room left takes no more, and then can't be rewound (a
+// call that refuses before it writes lends an empty room). The room is lent, and no ArrayVec, so that it is as large as the paths need.
 #[derive(Drop)]
 pub struct Journal<'a> {
     area: &'a mut [u16],
     room: &'a mut [u64],
     count: usize,
-    ghost within: { count ≤ length room.now },
 }
 
 impl<'a> Journal<'a> {
     ghost use Rattle.journal.specs.Journal.{rewound, written, Noted, Back, Kept};
 
-    // A journal with nothing put down yet.
+    // A journal with nothing put down yet. (`lent` and `held`, here and where a journal is handed on: a caller knows by these clauses
+    // alone that its area is the one that was written, and its room the one that was filled.)
     pub fn over(area: &'a mut [u16], room: &'a mut [u64]) -> Journal<'a>
         ensures lent { result.area.ghost_name ≡ area.entry.ghost_name }
+        ensures held { result.room.ghost_name ≡ room.entry.ghost_name }
         ensures area { result.area.now ≡ area.old }
         ensures empty { result.count ≡ 0 }
         ensures room { result.room.now ≡ room.old }
     {
-        Journal {
-            area,
-            room,
-            count: 0,
-        }
+        Journal::resumed(area, room, 0)
+    }
+
+    // A journal that has so many entries already; more than its room holds are a full room.
+    pub fn resumed(area: &'a mut [u16], room: &'a mut [u64], count: usize) -> Journal<'a>
+        ensures lent { result.area.ghost_name ≡ area.entry.ghost_name }
+        ensures held { result.room.ghost_name ≡ room.entry.ghost_name }
+        ensures area { result.area.now ≡ area.old }
+        ensures count { result.count ≡ count }
+        ensures room { result.room.now ≡ room.old }
+    {
+        Journal { area, room, count }
+    }
+
+    // How many entries it has.
+    pub fn count(&self) -> usize
+        ensures { result ≡ self.now.count }
+    {
+        let Journal { count, .. } = self;
+        *count
     }
 
     // The area as the call has written it so far.
@@ -55,15 +71,24 @@ impl<'a> Journal<'a> {
         }
     }
 
-    // A word is replaced.
+    // A word is replaced, at any place that an entry has bits for.
     #[tactic(auto, using(crate::proofs::Laws::set_there))]
+    pub fn store_at(&mut self, i: usize, v: u16)
+        requires { i < 2 ^ 48 }
+        ensures is { self.new.area.now ≡ set self.old.area.now i v }
+        ensures back { Back self.old 1 self.new }
+    {
+        let old = word(self.area(), i);
+        self.note(i, old);
+        put_word(self.area, i, v);
+    }
+
+    // The same, at a sound place.
     pub fn store(&mut self, p: Place, v: u16)
         ensures is { self.new.area.now ≡ set self.old.area.now p v }
         ensures back { Back self.old 1 self.new }
     {
-        let old = word(self.area(), p.at);
-        self.note(p.at, old);
-        put_word(self.area, p.at, v);
+        self.store_at(p.at, v);
     }
 
     // A two-word number is replaced.
@@ -89,46 +114,58 @@ impl<'a> Journal<'a> {
         }
     }
 
+    // Words are laid over those from a place on.
+    fn store_words(&mut self, at: usize, vs: &[u16])
+        requires { at + length vs.now < 2 ^ 48 }
+        ensures is { self.new.area.now ≡ sets self.old.area.now at vs.now }
+        ensures back { Back self.old (length vs.now) self.new }
+    {
+        self.keep(at, vs.len());
+        lay(self.area, at, vs);
+    }
+
     // An entry's words are laid over those from a place on.
     pub fn store_run(&mut self, p: Place, vs: &Entry)
         ensures is { self.new.area.now ≡ sets self.old.area.now p vs.now }
         ensures back { Back self.old (length vs.now) self.new }
     {
-        self.keep(p.at, vs.words.len());
-        lay(self.area, p.at, vs.words);
+        self.store_words(p.at, vs.words);
     }
 
-    // The len words from a place on become 0.
-    pub fn store_zeros(&mut self, p: Place, len: u16)
-        ensures is { self.new.area.now ≡ sets self.old.area.now p (replicate len 0) }
+    // The len words from a place on become 0, be they more than a Place has behind it.
+    pub fn store_zeros(&mut self, at: usize, len: usize)
+        requires { at + len < 2 ^ 48 }
+        ensures is { self.new.area.now ≡ sets self.old.area.now at (replicate len 0) }
         ensures back { Back self.old len self.new }
     {
-        self.keep(p.at, len as usize);
-        lay_zeros(self.area, p.at, len as usize);
+        self.keep(at, len);
+        lay_zeros(self.area, at, len);
     }
 
-    // The words of a run are laid over those from another place on. The longest record has 557 words: five synonym words, eight
-    // heads, and sixteen items of 32 words.
-    pub fn store_moved(&mut self, from: usize, to: Place, len: u16)
-        requires { len ≤ 557 }
+    // The words of a run are laid over those from another place on, up to the last place that an entry has bits for. The longest
+    // record has 557 words: five synonym words, eight heads, and sixteen items of 32 words.
+    pub fn store_moved(&mut self, from: usize, to: usize, len: usize)
+        requires { (len ≤ 557) × (to + len < 2 ^ 48) }
         ensures is { self.new.area.now ≡ sets self.old.area.now to (take len (drop from self.old.area.now)) }
         ensures back { Back self.old len self.new }
     {
         let mut room = [0u16; 557];
-        let run = part(self.area(), from, len as usize);
+        let run = part(self.area(), from, len);
         let taken = &mut room[..run.len()];
         taken.copy_from_slice(run);
-        self.store_run(to, &Entry { words: taken });
+        self.store_words(to, taken);
     }
 
-    // The area as it was before the stores that the journal has. (`lent`, here and where a journal is handed on: a caller knows by that
-    // clause alone that its area is the one that was written.)
-    #[tactic(auto, using(crate::proofs::Laws::rewind_end, crate::proofs::Laws::rewind_turn))]
+    // The area as it was before the stores that the journal has; the journal stays as it is.
+    #[tactic(auto, using(std::proofs::lemmas::List::take_min, crate::proofs::Laws::rewind_end, crate::proofs::Laws::rewind_turn))]
     pub fn rewind(&mut self)
         ensures lent { self.new.area.ghost_name ≡ self.old.area.ghost_name }
+        ensures held { self.new.room.ghost_name ≡ self.old.room.ghost_name }
         ensures is { self.new.area.now ≡ rewound (written self.old) self.old.area.now }
+        ensures room { self.new.room.now ≡ self.old.room.now }
+        ensures count { self.new.count ≡ self.old.count }
     {
-        for k in (0..self.count).rev() {
+        for k in (0..self.count.min(self.room.len())).rev() {
             let e = self.room[k];
             put_word(self.area, (e / 65536) as usize, (e % 65536) as u16);
         }

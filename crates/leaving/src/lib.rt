@@ -12,12 +12,12 @@ use find::no_lines;
 use journal::Journal;
 use master_delete::remove_entry;
 use placing::set_end;
-use sound::{SoundMaster, SoundPath};
+use sound::{PlacedPath, SoundMaster};
 use spec::{Head, Hung, Links, Path, Refusal, Shape};
 
 // Behind and ahead of the line that goes are joined.
 #[tactic(auto, unfolding(spec::specs::Detail::unlink_neighbours, spec::specs::Area::mend_back, spec::specs::Area::mend_fore), using(journal::specs::BackLaws::back_two))]
-fn neighbours(jr: &mut Journal, d: Shape, p: SoundPath, l: Links)
+fn neighbours(jr: &mut Journal, d: Shape, p: PlacedPath, l: Links)
     ensures is { jr.new.area.now ≡ unlink_neighbours d p jr.old.area.now l }
     ensures back { Back jr.old 4 jr.new }
 {
@@ -27,7 +27,7 @@ fn neighbours(jr: &mut Journal, d: Shape, p: SoundPath, l: Links)
 
 // The head's last and first, where the line that goes was at that end.
 #[tactic(auto, unfolding(spec::specs::Detail::old_ends, spec::specs::Area::set_last, spec::specs::Area::set_first, placing::specs::Answers::end_set), using(journal::specs::BackLaws::back_two))]
-fn old_ends(jr: &mut Journal, p: SoundPath, k: u32, l: Links)
+fn old_ends(jr: &mut Journal, p: PlacedPath, k: u32, l: Links)
     ensures is { jr.new.area.now ≡ old_ends p jr.old.area.now k l }
     ensures back { Back jr.old 4 jr.new }
 {
@@ -37,7 +37,7 @@ fn old_ends(jr: &mut Journal, p: SoundPath, k: u32, l: Links)
 
 // Behind, ahead, head.
 #[tactic(auto, unfolding(spec::specs::Detail::link_out, spec::specs::Area::set_head_count), using(journal::specs::BackLaws::back_three))]
-pub fn link_out(jr: &mut Journal, d: Shape, p: SoundPath, k: u32, h: Head, l: Links)
+pub fn link_out(jr: &mut Journal, d: Shape, p: PlacedPath, k: u32, h: Head, l: Links)
     ensures is { jr.new.area.now ≡ link_out d p jr.old.area.now k h l }
     ensures back { Back jr.old 9 jr.new }
 {

@@ -16,7 +16,7 @@ use area::{
 use find::find_key;
 use journal::Journal;
 use master_put::put_entry;
-use sound::{Entry, SoundPath};
+use sound::{Entry, SoundDetail, SoundPath};
 use spec::{Head, Path, Refusal, Shape, Spot, Taken};
 use words::greater;
 
@@ -231,23 +231,22 @@ fn link_in(jr: &mut Journal, d: Shape, p: SoundPath, k: u32, h: Head, r: u32, t:
 }
 
 // The chain's head in record k of the master, the line's place, and its links. (The detail's capacity bounds the count that is
-// raised; it is asked, since the shape is the definitions' own.)
+// raised.)
 #[tactic(auto, unfolding(spec::specs::Detail::place_line, spec::specs::Detail::head_at), using(spec::specs::Follow::goes, spec::specs::Follow::stops, journal::specs::BackLaws::back_none))]
 fn place_line(
     jr: &mut Journal,
-    d: Shape,
+    d: SoundDetail,
     p: SoundPath,
     k: u32,
     r: u32,
     entry: &Entry,
 ) -> Result<u16, Refusal>
-    requires { d.cap ≤ 4095 }
     ensures is { placed_out result jr.new.area.now ≡ place_line d p jr.old.area.now k r entry.now }
     ensures back { Back jr.old 13 jr.new }
 {
-    let h = read_head(jr.area(), d.cap, p.plain.to.shape, k, p.plain.head)?;
-    let t = spot_for(jr.area(), d, p.plain, entry, h.back)?;
-    link_in(jr, d, p, k, h, r, t);
+    let h = read_head(jr.area(), d.plain.cap, p.plain.to.shape, k, p.plain.head)?;
+    let t = spot_for(jr.area(), d.plain, p.plain, entry, h.back)?;
+    link_in(jr, d.plain, p, k, h, r, t);
     Ok(t.passed)
 }
 
@@ -255,13 +254,12 @@ fn place_line(
 #[tactic(auto, unfolding(spec::specs::Detail::put_path), using(spec::specs::Follow::goes, spec::specs::Follow::stops, crate::proofs::Laws::room_turn, crate::proofs::Laws::room_refused))]
 pub fn put_path(
     jr: &mut Journal,
-    d: Shape,
+    d: SoundDetail,
     p: SoundPath,
     i: u8,
     r: u32,
     entry: &Entry,
 ) -> Result<u16, Refusal>
-    requires { d.cap ≤ 4095 }
     ensures is { placed_out result jr.new.area.now ≡ put_path d p i jr.old.area.now r entry.now }
     ensures back { Back jr.old (path_room p) jr.new }
 {

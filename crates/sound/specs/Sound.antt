@@ -16,3 +16,8 @@ pub record SoundPlaces (p : Path) : Type 0 where
   pub to : SoundShape p.to.shape
   pub head : p.head ≤ 65000
   pub links : p.links ≤ 65000
+
+-- the words of a head and of a pair of links stand at places that one word numbers, whatever the master is
+pub record Placed (p : Path) : Type 0 where
+  pub head : p.head ≤ 65000
+  pub links : p.links ≤ 65000

@@ -1,13 +1,15 @@
-// What the steps of a call are handed, sound as a good root has them: a master, a path of a detail, an entry, and a place in the area.
+// What the steps of a call are handed, sound as a good root has them: a master, a detail, a path of it, or its places alone, an entry,
+// and a place in the area.
 #![tactic(auto)]
 
 ghost use Rattle.std.specs.Prelude.{◌≡◌, ◌+◌, ◌≤◌, ◌<◌, ◌^◌, ℕ, List, length};
 ghost use Rattle.spec.specs.Area.{value};
 ghost use Rattle.spec.specs.declared.Master.{Master as MasterValue};
 ghost use Rattle.spec.specs.declared.Path.{Path as PathValue};
-ghost use Rattle.sound.specs.Sound.{SoundShape, SoundPlaces};
+ghost use Rattle.spec.specs.declared.Shape.{Shape as ShapeValue};
+ghost use Rattle.sound.specs.Sound.{SoundShape, SoundPlaces, Placed};
 
-use spec::{Field, Master, Path};
+use spec::{Field, Master, Path, Shape};
 use std::marker::Model;
 use words::part;
 
@@ -25,6 +27,22 @@ impl Model for SoundMaster {
     ghost invariant = { λ s. SoundShape s.plain.shape };
 
     ghost inverse = { λ m. record { plain = m } };
+}
+
+// A detail: it has no more than 4,095 records.
+#[derive(Clone, Copy)]
+pub struct SoundDetail {
+    pub plain: Shape,
+}
+
+impl Model for SoundDetail {
+    ghost Value = { ShapeValue };
+
+    ghost view = { λ s. s.plain };
+
+    ghost invariant = { λ s. s.plain.cap ≤ 4095 };
+
+    ghost inverse = { λ s. record { plain = s } };
 }
 
 // A path: its master is sound, and the words of a head and of a pair of links stand at places that one word numbers.
@@ -52,6 +70,29 @@ impl SoundPath {
             plain: self.plain.to,
         }
     }
+
+    // Its places alone.
+    pub fn placed(self) -> PlacedPath
+        ensures { result ≡ self }
+    {
+        PlacedPath { plain: self.plain }
+    }
+}
+
+// A path by its places alone, whatever its master is: the words of a head and of a pair of links stand at places that one word numbers.
+#[derive(Clone, Copy)]
+pub struct PlacedPath {
+    pub plain: Path,
+}
+
+impl Model for PlacedPath {
+    ghost Value = { PathValue };
+
+    ghost view = { λ s. s.plain };
+
+    ghost invariant = { λ s. Placed s.plain };
+
+    ghost inverse = { λ p. record { plain = p } };
 }
 
 // The words of an entry or a key: no more of them than one word can count.

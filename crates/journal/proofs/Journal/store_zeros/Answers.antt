@@ -5,4 +5,4 @@ use Rattle.journal.proofs.Journal.store_zeros.Goals as goal
 
 pub returns-clause-back : goal.returns-clause-back
 returns-clause-back c =
-    stored_part _ _ _ _ _ (replicate c.args.len 0) c.keep.ensures refl refl refl c.lay_zeros.ensures (grind (arith, length-replicate))
+    stored_part _ _ _ _ _ (replicate c.args.len 0) c.keep.ensures refl refl refl refl c.lay_zeros.ensures (grind (arith, length-replicate))
