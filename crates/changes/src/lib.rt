@@ -11,6 +11,7 @@ use detail_calls::{delete_detail, put_detail, update_detail};
 use layout::known;
 use master_calls::{delete_master, put_master, update_master};
 use named::{Named, name_cursor};
+use root::Plan;
 use session::{Good, Session};
 use spec::Refusal;
 
@@ -26,7 +27,8 @@ pub fn put_steps(
     ensures kept { IfErr result (λ _. area.new ≡ area.old) }
     ensures set { IfOk result (λ _. (1 ≤ set) × (set ≤ 16)) }
 {
-    let root = known(words, area.len())?;
+    let mut plan = Plan::ROOM;
+    let root = known(words, area.len(), &mut plan)?;
     let (named, c) = name_cursor(&root, session, set)?;
     match named {
         Named::Master(m) => put_master(&m, area, c, entry),
@@ -46,7 +48,8 @@ pub fn update_steps(
     ensures kept { IfErr result (λ _. area.new ≡ area.old) }
     ensures set { IfOk result (λ _. (1 ≤ set) × (set ≤ 16)) }
 {
-    let root = known(words, area.len())?;
+    let mut plan = Plan::ROOM;
+    let root = known(words, area.len(), &mut plan)?;
     let (named, c) = name_cursor(&root, session, set)?;
     match named {
         Named::Master(m) => update_master(&m, area, c, entry),
@@ -65,7 +68,8 @@ pub fn delete_steps(
     ensures kept { IfErr result (λ _. area.new ≡ area.old) }
     ensures set { IfOk result (λ _. (1 ≤ set) × (set ≤ 16)) }
 {
-    let root = known(words, area.len())?;
+    let mut plan = Plan::ROOM;
+    let root = known(words, area.len(), &mut plan)?;
     let (named, c) = name_cursor(&root, session, set)?;
     match named {
         Named::Master(m) => delete_master(&m, area, c),

@@ -109,7 +109,7 @@ pub fn update_detail(
     Ok(changed(d.shape.entry, c))
 }
 
-// 17, then the delete.
+// 17, then the delete. (That the record's number is a word is a clause: it is the cursor's, which fits its set: see `named`.)
 #[tactic(auto, unfolding(spec::specs::Calls::delete_on, spec::specs::Calls::open_to_change, spec::specs::Calls::delete_in, spec::specs::Layout::view_shape, spec::specs::Layout::detail_of, master_calls::specs::Answers::rewritten), using(spec::specs::Follow::goes, spec::specs::Follow::stops))]
 pub fn delete_detail(d: &DetailSet, area: &mut [u16], c: Cursor) -> Result<Good, Refusal>
     requires { c.current ≤ 65535 }

@@ -9,19 +9,21 @@ ghost use Rattle.spec.specs.Calls.{make, find, get, put, update, delete};
 use changes::{delete_steps, put_steps, update_steps};
 use layout::known;
 use reads::{find_steps, get_steps};
+use root::Plan;
 use session::{Answer, Session, answer_of, refused_status};
-use words::lay;
+use words::{lay, lay_zeros};
 
 // "Making a base takes only root and area and answers the status."
-#[tactic(auto, unfolding(spec::specs::Calls::make, spec::specs::Calls::made), using(layout::specs::Known::known_by_length))]
+#[tactic(auto, unfolding(spec::specs::Calls::make, spec::specs::Calls::made), using(layout::specs::Known::known_by_length, crate::proofs::Laws::cleared))]
 pub fn make(root: &[u16], area: &mut [u16]) -> [u16; 10]
     ensures status { result ≡ (make root.now area.old).status }
     ensures area { area.new ≡ (make root.now area.old).area }
 {
-    match known(root, area.len()) {
+    let mut plan = Plan::ROOM;
+    match known(root, area.len(), &mut plan) {
         Ok(_) => {
             // "A new base is all zeros."
-            area.fill(0);
+            lay_zeros(area, 0, area.len());
             [0; 10]
         }
         Err(why) => refused_status(why),

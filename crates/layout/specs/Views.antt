@@ -6,12 +6,12 @@ use Rattle.spec.specs.declared.Shape.{Shape}
 use Rattle.spec.specs.declared.Master.{Master}
 use Rattle.spec.specs.declared.Path.{Path}
 use Rattle.spec.specs.Root.{sets, kind, path_count, path_master, path_sort, leading, root_good}
-use Rattle.rules.specs.declared.Counts.{Counts}
+use Rattle.root.specs.declared.Plan.{Plan}
 use Rattle.root.specs.Plan.{place_of, head_number}
 use Rattle.spec.specs.Layout.{entry_length, field_of, shape_of, master_of, path_of}
 
--- what the judging of a good root counts
-pub record Counted (root : List ℕ) (c : Counts) : Type 0 where
+-- what the judging of a good root counts: all of the plan but the starts
+pub record Counted (root : List ℕ) (c : Plan) : Type 0 where
   pub good : root_good root ≡ true
   pub leads : (m : ℕ) → 1 ≤ m → m ≤ sets root → get_or c.leads (m - 1) 0 ≡ leading root m (sets root)
   pub slots :

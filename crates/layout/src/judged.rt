@@ -12,15 +12,14 @@ ghost use Rattle.std.proofs.Props.{props};
 
 use crate::sets::Root;
 use root::{ItemType, Kind, Plan, Stated};
-use rules::Counts;
 use spec::Refusal;
 
 // A root that keeps its rules, with what its judging counted.
-#[derive(Drop)]
+#[derive(Clone, Copy)]
 struct Judged<'a> {
     root: Stated<'a>,
-    counts: Counts,
-    ghost counted: { Counted root.words.now counts } by { Prim.hlevel props },
+    plan: &'a Plan,
+    ghost counted: { Counted root.words.now plan.now } by { Prim.hlevel props },
 }
 
 // A set of a root that keeps its rules, by its number: what its words say. (The one of `rules` is of a root that is still judged.)
@@ -79,7 +78,7 @@ impl<'a> Judged<'a> {
             root: self.root,
             number: s,
         };
-        let width = set.front_words(self.counts.leads[k]) + self.counts.entries[k];
+        let width = set.front_words(self.plan.leads[k]) + self.plan.entries[k];
         2 + (cap + 15) / 16 + cap * width as u32
     }
 
@@ -98,36 +97,25 @@ impl<'a> Judged<'a> {
     }
 }
 
-// −91: the root, if it keeps its rules.
+// −91: the root, if it keeps its rules. What is counted from it goes into the plan that is lent.
 #[tactic(auto, unfolding(root::specs::Plan::Leads, root::specs::Plan::Slots, root::specs::Plan::Entries, root::specs::Plan::Starts), using(crate::proofs::Good::good_root))]
-pub fn ruled<'a>(words: &'a [u16]) -> Option<Root<'a>>
+pub fn ruled<'a>(words: &'a [u16], plan: &'a mut Plan) -> Option<Root<'a>>
     ensures good { is_some result ≡ root_good words.now }
     ensures words { IfSome result (λ root. root.words.now ≡ words.now) }
 {
-    let counts = rules::root_judged(words)?;
-    let judged = Judged {
-        root: Stated { words },
-        counts,
-    };
-    let starts = judged.starts();
-    Some(Root {
-        words,
-        plan: Plan {
-            leads: judged.counts.leads,
-            slots: judged.counts.slots,
-            entries: judged.counts.entries,
-            starts,
-        },
-    })
+    let root = rules::root_judged(words, plan)?;
+    let starts = Judged { root, plan }.starts();
+    plan.starts = starts;
+    Some(Root { words, plan })
 }
 
 // −91, −92: the root, if it keeps its rules and the area is as long as it means.
 #[tactic(auto, unfolding(crate::specs::Known::known_by))]
-pub fn known<'a>(words: &'a [u16], area: usize) -> Result<Root<'a>, Refusal>
+pub fn known<'a>(words: &'a [u16], area: usize, plan: &'a mut Plan) -> Result<Root<'a>, Refusal>
     ensures words { IfOk result (λ root. root.words.now ≡ words.now) }
     ensures is { known_out result ≡ known_by words.now area }
 {
-    let Some(root) = ruled(words) else {
+    let Some(root) = ruled(words, plan) else {
         return Err(Refusal::BadRoot);
     };
     if area == root.area_length() as usize {

@@ -13,20 +13,20 @@ ghost use Rattle.arrayvec.specs.ArrayVec.{array_vec_len};
 use crate::judged::RuledSet;
 use arrayvec::ArrayVec;
 use root::{ItemType, Kind, Plan, Stated};
-use sound::{SoundMaster, SoundPath};
+use sound::{SoundDetail, SoundMaster, SoundPath};
 use spec::{Field, Master, Path, Shape};
 
 // A root that keeps its rules, with what is counted from it once. (`Stated { words: .. }` stands where it is read: with a method that
 // gives it the proofs don't close.)
-#[derive(Drop)]
+#[derive(Clone, Copy)]
 pub struct Root<'a> {
     pub words: &'a [u16],
-    pub plan: Plan,
-    pub ghost planned: { Planned words.now plan } by { Prim.hlevel props },
+    pub plan: &'a Plan,
+    pub ghost planned: { Planned words.now plan.now } by { Prim.hlevel props },
 }
 
 // A set of a good root, by its number.
-#[derive(Drop)]
+#[derive(Clone, Copy)]
 pub struct Set<'a> {
     pub root: &'a Root<'a>,
     pub number: u16,
@@ -34,7 +34,7 @@ pub struct Set<'a> {
 }
 
 // A master set of a good root, by its number.
-#[derive(Drop)]
+#[derive(Clone, Copy)]
 pub struct MasterSet<'a> {
     pub root: &'a Root<'a>,
     pub number: u16,
@@ -45,7 +45,7 @@ pub struct MasterSet<'a> {
 }
 
 // A detail set of a good root, by its number.
-#[derive(Drop)]
+#[derive(Clone, Copy)]
 pub struct DetailSet<'a> {
     pub root: &'a Root<'a>,
     pub number: u16,
@@ -56,7 +56,7 @@ pub struct DetailSet<'a> {
 }
 
 // A path of a detail set, by its number.
-#[derive(Drop)]
+#[derive(Clone, Copy)]
 pub struct SetPath<'a> {
     pub set: &'a DetailSet<'a>,
     pub number: u16,
@@ -288,17 +288,22 @@ impl<'a> DetailSet<'a> {
         })
     }
 
-    // Where one of its items stands in the entry.
-    fn field_of(&self, item: u16) -> Field
-        requires { has_item self.now.root.now.words.now self.now.number item ≡ true }
-        ensures value { result ≡ field_of self.now.root.now.words.now self.now.number item }
-        ensures size_bound { result.at + result.size ≤ entry_length self.now.root.now.words.now self.now.number }
+    // What its steps are handed.
+    pub fn sound(&self) -> SoundDetail
+        ensures { result ≡ self.now.shape }
     {
-        let set = Set {
+        SoundDetail { plain: self.shape }
+    }
+
+    // As a set of whatever kind.
+    fn plain(&self) -> Set<'a>
+        ensures root { result.root.now ≡ self.now.root.now }
+        ensures number { result.number ≡ self.now.number }
+    {
+        Set {
             root: self.root,
             number: self.number,
-        };
-        set.field_of(item)
+        }
     }
 }
 
@@ -353,6 +358,7 @@ impl<'a> SetPath<'a> {
             words: self.set.root.words,
         };
         self.set
+            .plain()
             .field_of(root::path_search(root, self.set.number, self.number))
     }
 
@@ -365,7 +371,7 @@ impl<'a> SetPath<'a> {
         };
         match root::path_sort(root, self.set.number, self.number) {
             0 => None,
-            item => Some(self.set.field_of(item)),
+            item => Some(self.set.plain().field_of(item)),
         }
     }
 

@@ -15,7 +15,7 @@ use session::Session;
 use spec::{Cursor, Refusal, Shape};
 
 // The named set by its kind.
-#[derive(Drop)]
+#[derive(Clone, Copy)]
 pub enum Named<'a> {
     Master(MasterSet<'a>),
     Detail(DetailSet<'a>),

@@ -18,6 +18,7 @@ use find::find_key;
 pub use got::Got;
 use layout::{DetailSet, MasterSet, SetPath, known};
 use named::{Named, current_record, name_cursor, name_set};
+use root::Plan;
 use session::{Good, Session};
 use sound::SoundMaster;
 use spec::{Cursor, Links, Refusal, Shape};
@@ -111,7 +112,8 @@ pub fn find_steps(
     ensures is { done_out result area.now [] ≡ find_steps words.now area.now session.now.cursors set item value.now }
     ensures set { IfOk result (λ _. (1 ≤ set) × (set ≤ 16)) }
 {
-    let root = known(words, area.len())?;
+    let mut plan = Plan::ROOM;
+    let root = known(words, area.len(), &mut plan)?;
     let named = name_set(&root, set)?;
     let Named::Detail(d) = &named else {
         return Err(Refusal::NoSet);
@@ -179,7 +181,8 @@ fn live_above(area: &[u16], s: Shape, from: u32) -> u32
     0
 }
 
-// Whether the 16 records down from r are a word of the map and all unused: the mirror image.
+// Whether the 16 records down from r are a word of the map and all unused: the mirror image. (Two, as the searches up and down are:
+// one over the way would count places up for the one and down for the other, and be no shorter.)
 fn empty_down(area: &[u16], s: Shape, r: u32) -> bool
     ensures { result ≡ true → EmptyDown s area.now r }
 {
@@ -399,7 +402,8 @@ pub fn get_steps(
     ensures is { got_out result area.now ≡ get_steps words.now area.now session.now.cursors set mode number value.now room }
     ensures set { IfOk result (λ _. (1 ≤ set) × (set ≤ 16)) }
 {
-    let root = known(words, area.len())?;
+    let mut plan = Plan::ROOM;
+    let root = known(words, area.len(), &mut plan)?;
     let (named, c) = name_cursor(&root, session, set)?;
     get_on(
         &named,

@@ -8,9 +8,10 @@ ghost use Rattle.root.specs.Inside.{counts_inside, item_inside, set_inside};
 ghost use Rattle.spec.specs.Root.{items, sets, item_type, item_length, description, kind, capacity, item_count, key_item, path_count, set_item, path_master, path_search, path_sort, search_path, root_length};
 
 pub use codes::{ItemType, Kind, UnknownCode};
+use std::alloc::Allocator;
 
 // The words of a root, and which of them may be asked for.
-pub trait Readable: Copy {
+pub trait Readable: Drop {
     ghost words: { Self → List ℕ };
 
     // The places that may be read, the items and sets that may be asked for, and the places within a set's 33 words. (Each reader
@@ -23,9 +24,9 @@ pub trait Readable: Copy {
 
     ghost has_place: { Self → ℕ → Type 0 };
 
-    fn word(self, i: usize) -> u16
-        requires { has_word self i }
-        ensures { result ≡ get_or (words self) i 0 };
+    fn word(&self, i: usize) -> u16
+        requires { has_word self.now i }
+        ensures { result ≡ get_or (words self.now) i 0 };
 
     ghost counts: { (r : Self) → has_word r 0 × has_word r 1 };
 
@@ -60,8 +61,140 @@ impl<'a> Readable for &'a [u16] {
 
     ghost from_one = { λ r s h. h };
 
-    fn word(self, i: usize) -> u16 {
+    fn word(&self, i: usize) -> u16 {
         words::word(self, i)
+    }
+}
+
+// The same of words that are lent to be written, of a list and of an array.
+impl<'a> Readable for &'a mut [u16] {
+    ghost words = { λ r. r.now };
+
+    ghost has_word = { λ r i. Unit {0} };
+
+    ghost has_item = { λ r i. Unit {0} };
+
+    ghost has_set = { λ r s. 1 ≤ s };
+
+    ghost has_place = { λ r k. Unit {0} };
+
+    ghost counts = { λ r. (tt, tt) };
+
+    ghost of_item = { λ r i h. (tt, tt) };
+
+    ghost of_set = { λ r s k h p. tt };
+
+    ghost places = { λ r k h. tt };
+
+    ghost from_one = { λ r s h. h };
+
+    fn word(&self, i: usize) -> u16 {
+        words::word(&self[..], i)
+    }
+}
+
+impl<A: Allocator> Readable for Vec<u16, A> {
+    ghost words = { λ r. r.items };
+
+    ghost has_word = { λ r i. Unit {0} };
+
+    ghost has_item = { λ r i. Unit {0} };
+
+    ghost has_set = { λ r s. 1 ≤ s };
+
+    ghost has_place = { λ r k. Unit {0} };
+
+    ghost counts = { λ r. (tt, tt) };
+
+    ghost of_item = { λ r i h. (tt, tt) };
+
+    ghost of_set = { λ r s k h p. tt };
+
+    ghost places = { λ r k h. tt };
+
+    ghost from_one = { λ r s h. h };
+
+    fn word(&self, i: usize) -> u16 {
+        words::word(self.as_slice(), i)
+    }
+}
+
+impl<const N: usize> Readable for [u16; N] {
+    ghost words = { λ r. r };
+
+    ghost has_word = { λ r i. Unit {0} };
+
+    ghost has_item = { λ r i. Unit {0} };
+
+    ghost has_set = { λ r s. 1 ≤ s };
+
+    ghost has_place = { λ r k. Unit {0} };
+
+    ghost counts = { λ r. (tt, tt) };
+
+    ghost of_item = { λ r i h. (tt, tt) };
+
+    ghost of_set = { λ r s k h p. tt };
+
+    ghost places = { λ r k h. tt };
+
+    ghost from_one = { λ r s h. h };
+
+    fn word(&self, i: usize) -> u16 {
+        self.get(i).copied().unwrap_or(0)
+    }
+}
+
+// The same words by reference.
+impl<'a, R: Readable> Readable for &'a R {
+    ghost words = { λ r. R.words r.now };
+
+    ghost has_word = { λ r. R.has_word r.now };
+
+    ghost has_item = { λ r. R.has_item r.now };
+
+    ghost has_set = { λ r. R.has_set r.now };
+
+    ghost has_place = { λ r. R.has_place r.now };
+
+    ghost counts = { λ r. R.counts r.now };
+
+    ghost of_item = { λ r. R.of_item r.now };
+
+    ghost of_set = { λ r. R.of_set r.now };
+
+    ghost places = { λ r. R.places r.now };
+
+    ghost from_one = { λ r. R.from_one r.now };
+
+    fn word(&self, i: usize) -> u16 {
+        R::word(*self, i)
+    }
+}
+
+impl<'a, R: Readable> Readable for &'a mut R {
+    ghost words = { λ r. R.words r.now };
+
+    ghost has_word = { λ r. R.has_word r.now };
+
+    ghost has_item = { λ r. R.has_item r.now };
+
+    ghost has_set = { λ r. R.has_set r.now };
+
+    ghost has_place = { λ r. R.has_place r.now };
+
+    ghost counts = { λ r. R.counts r.now };
+
+    ghost of_item = { λ r. R.of_item r.now };
+
+    ghost of_set = { λ r. R.of_set r.now };
+
+    ghost places = { λ r. R.places r.now };
+
+    ghost from_one = { λ r. R.from_one r.now };
+
+    fn word(&self, i: usize) -> u16 {
+        (**self).word(i)
     }
 }
 
@@ -93,7 +226,7 @@ impl<'a> Readable for Stated<'a> {
 
     ghost from_one = { λ r s h. h.0 };
 
-    fn word(self, i: usize) -> u16 {
+    fn word(&self, i: usize) -> u16 {
         self.words[i]
     }
 }
@@ -152,7 +285,7 @@ pub fn kind<R: Readable>(root: R, s: u16) -> u16
     requires { R.has_set root s }
     ensures { result ≡ kind (R.words root) s }
 {
-    root.word(description(root, s))
+    root.word(description(&root, s))
 }
 
 // "capacity 1..4,095"
@@ -161,7 +294,7 @@ pub fn capacity<R: Readable>(root: R, s: u16) -> u16
     requires { R.has_set root s }
     ensures { result ≡ capacity (R.words root) s }
 {
-    root.word(description(root, s) + 1)
+    root.word(description(&root, s) + 1)
 }
 
 // "item count 1..16"
@@ -170,7 +303,7 @@ pub fn item_count<R: Readable>(root: R, s: u16) -> u16
     requires { R.has_set root s }
     ensures { result ≡ item_count (R.words root) s }
 {
-    root.word(description(root, s) + 2)
+    root.word(description(&root, s) + 2)
 }
 
 // "key item number (0 for a detail)"
@@ -179,7 +312,7 @@ pub fn key_item<R: Readable>(root: R, s: u16) -> u16
     requires { R.has_set root s }
     ensures { result ≡ key_item (R.words root) s }
 {
-    root.word(description(root, s) + 3)
+    root.word(description(&root, s) + 3)
 }
 
 // "path count 0..4 (0 for a master)"
@@ -188,7 +321,7 @@ pub fn path_count<R: Readable>(root: R, s: u16) -> u16
     requires { R.has_set root s }
     ensures { result ≡ path_count (R.words root) s }
 {
-    root.word(description(root, s) + 4)
+    root.word(description(&root, s) + 4)
 }
 
 // The j-th item of set s.
@@ -198,7 +331,7 @@ pub fn set_item<R: Readable>(root: R, s: u16, j: u16) -> u16
     requires place { R.has_place root (4 + j) }
     ensures { result ≡ set_item (R.words root) s j }
 {
-    root.word(description(root, s) + 4 + (j as usize))
+    root.word(description(&root, s) + 4 + (j as usize))
 }
 
 // "four triples of master set, search item, sort item (0: none)": of path p of set s the master, the search item, the sort item.
@@ -208,7 +341,7 @@ pub fn path_master<R: Readable>(root: R, s: u16, p: u16) -> u16
     requires place { R.has_place root (18 + 3 * p) }
     ensures { result ≡ path_master (R.words root) s p }
 {
-    root.word(description(root, s) + 18 + 3 * (p as usize))
+    root.word(description(&root, s) + 18 + 3 * (p as usize))
 }
 
 #[tactic(auto, unfolding(spec::specs::Root::path_search))]
@@ -217,7 +350,7 @@ pub fn path_search<R: Readable>(root: R, s: u16, p: u16) -> u16
     requires place { R.has_place root (19 + 3 * p) }
     ensures { result ≡ path_search (R.words root) s p }
 {
-    root.word(description(root, s) + 19 + 3 * (p as usize))
+    root.word(description(&root, s) + 19 + 3 * (p as usize))
 }
 
 #[tactic(auto, unfolding(spec::specs::Root::path_sort))]
@@ -226,19 +359,29 @@ pub fn path_sort<R: Readable>(root: R, s: u16, p: u16) -> u16
     requires place { R.has_place root (20 + 3 * p) }
     ensures { result ≡ path_sort (R.words root) s p }
 {
-    root.word(description(root, s) + 20 + 3 * (p as usize))
+    root.word(description(&root, s) + 20 + 3 * (p as usize))
 }
 
-// What is counted from a root once. For set s, at s - 1: the paths leading to it, the words of its entry, and its start in
-// the area. For path p of set s, at 4 (s - 1) + p - 1: the number of its head among those of its master. (Four arrays: a set's paths are
-// counted while other sets are judged, and its start when all are, so an array of records would be filled a field at a time. The counts of
-// `rules` are the first three: no start is known before all are.)
+// What is counted from a root once, in a room that a call makes and lends. For set s, at s - 1: the paths leading to it, the words of
+// its entry, and its start in the area. For path p of set s, at 4 (s - 1) + p - 1: the number of its head among those of its master.
+// (Four arrays: a set's paths are counted while other sets are judged, and its start when all are, so an array of records would be
+// filled a field at a time.)
 #[derive(Clone, Copy)]
 pub struct Plan {
     pub leads: [u16; 16],
     pub slots: [u16; 64],
     pub entries: [u16; 16],
     pub starts: [u32; 16],
+}
+
+impl Plan {
+    // Room for a plan, of which nothing is counted yet.
+    pub const ROOM: Plan = Plan {
+        leads: [0; 16],
+        slots: [0; 64],
+        entries: [0; 16],
+        starts: [0; 16],
+    };
 }
 
 // The path of set s whose search item is a given one; 0 where there is none (its clause's definition has it so).
@@ -248,8 +391,8 @@ pub fn search_path<R: Readable>(root: R, s: u16, item: u16) -> u16
     requires places { (p : ℕ) → 1 ≤ p → p ≤ path_count (R.words root) s → R.has_place root (19 + 3 * p) }
     ensures { result ≡ search_path (R.words root) s item }
 {
-    for p in (1..=path_count(root, s)).rev() {
-        if path_search(root, s, p) == item {
+    for p in (1..=path_count(&root, s)).rev() {
+        if path_search(&root, s, p) == item {
             return p;
         }
     }

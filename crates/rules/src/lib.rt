@@ -10,17 +10,8 @@ ghost use Rattle.spec.specs.Root.{items, item_good, root_good};
 ghost use Rattle.rules.specs.Rules.{framed, longest, head_good};
 ghost use Rattle.root.specs.Plan.{Leads, Slots, Entries};
 
-use root::{ItemType, Stated};
+use root::{ItemType, Plan, Stated};
 use sets::Head;
-
-// What is counted from a good root: for set m, at m - 1, the paths that lead to it and the words of its entry; for path p of
-// set s, at 4 (s - 1) + p - 1, the number of its head among those of its master. (Three arrays, as in `root::Plan`.)
-#[derive(Clone, Copy)]
-pub struct Counts {
-    pub leads: [u16; 16],
-    pub slots: [u16; 64],
-    pub entries: [u16; 16],
-}
 
 // The most words of an item by its type, "I and K: 1 or 2; X: 1..32"; 0 where there is no such type, and no Option: a limit in
 // each case lets several items be looked at at once, and tests in each case cost an eighth more on a large root.
@@ -88,15 +79,16 @@ fn head(words: &[u16]) -> Option<Head>
     }
 }
 
-// The rules of the root, and what is counted of one that keeps them.
+// The rules of the root, and what is counted of one that keeps them: all of the plan but where the sets start, which is known when
+// all have been judged. (The plan is lent: handed on by value it would be copied at each step.)
 #[tactic(auto, using(crate::proofs::RootRules::root_rules), unfolding(spec::specs::Root::root_good, crate::specs::Rules::head_good, crate::specs::Rules::framed))]
-pub fn root_judged(words: &[u16]) -> Option<Counts>
+pub fn root_judged<'a>(words: &'a [u16], plan: &mut Plan) -> Option<Stated<'a>>
     ensures value { is_some result ≡ root_good words.now }
-    ensures leads { IfSome result (λ c. Leads words.now c.leads) }
-    ensures slots { IfSome result (λ c. Slots words.now c.slots) }
-    ensures entries { IfSome result (λ c. Entries words.now c.entries) }
+    ensures same { IfSome result (λ r. r.words.now ≡ words.now) }
+    ensures leads { IfSome result (λ _. Leads words.now plan.new.leads) }
+    ensures slots { IfSome result (λ _. Slots words.now plan.new.slots) }
+    ensures entries { IfSome result (λ _. Entries words.now plan.new.entries) }
 {
     let head = head(words)?;
-    let counts = head.sets_judged()?;
-    head.all_leading_good(&counts).then_some(counts)
+    (head.sets_judged(plan) && head.all_leading_good(plan)).then_some(head.root)
 }

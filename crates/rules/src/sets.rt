@@ -7,9 +7,8 @@ ghost use Rattle.spec.specs.Layout.{items_length, entry_length};
 ghost use Rattle.root.specs.Plan.{Leads, Slots, Entries, Filled};
 ghost use Rattle.rules.specs.Rules.{unused, items_good, set_judged, Holds, Holds-prop, Spare, Counted, HeadGood};
 
-use crate::Counts;
 use crate::items::ItemSet;
-use root::{ItemType, Kind, Stated};
+use root::{ItemType, Kind, Plan, Stated};
 
 // A root with its counts in their limits and its length as they say, whose items keep their rules.
 #[derive(Clone, Copy)]
@@ -76,8 +75,8 @@ fn blank(root: Stated, at: usize, n: usize) -> bool
     }
 }
 
-// (What is known of a root half judged, of its items, its paths' heads and the numbers within it, is told by clauses: a type for each
-// stage would be made anew at each item, set and path.)
+// (The stages of a root's judging are types: `Head`, `Set`, `GoodSet`. What is known within a loop, of the items and paths seen so far,
+// is told by clauses: a type of it would be made anew at each turn.)
 impl<'a> Set<'a> {
     // "a set's items exist and differ": the j-th, if it does, beside those before it.
     #[tactic(auto, using(std::proofs::lemmas::Bool::Decides::nat_tests), unfolding(spec::specs::Root::item_listed, crate::specs::Rules::Holds))]
@@ -164,18 +163,18 @@ impl<'a> Set<'a> {
 
     // The set judged, but for the paths that lead to it, its entry measured, and its own paths counted.
     #[tactic(auto, using(crate::proofs::Unused::paths_parts, crate::proofs::Counting::counted_set), unfolding(crate::specs::Rules::set_judged))]
-    fn judged(&self, counts: &mut Counts) -> bool
-        requires counted { Counted self.now.root.words.now self.now.number 0 counts.old.leads counts.old.slots }
-        requires filled { Filled (entry_length self.now.root.words.now) self.now.number counts.old.entries }
+    fn judged(&self, plan: &mut Plan) -> bool
+        requires counted { Counted self.now.root.words.now self.now.number 0 plan.old.leads plan.old.slots }
+        requires filled { Filled (entry_length self.now.root.words.now) self.now.number plan.old.entries }
         ensures value { result ≡ set_judged self.now.root.words.now self.now.number }
-        ensures counted_2 { result ≡ true → Counted self.now.root.words.now (self.now.number + 1) 0 counts.new.leads counts.new.slots }
-        ensures filled_2 { result ≡ true → Filled (entry_length self.now.root.words.now) (self.now.number + 1) counts.new.entries }
+        ensures counted_2 { result ≡ true → Counted self.now.root.words.now (self.now.number + 1) 0 plan.new.leads plan.new.slots }
+        ensures filled_2 { result ≡ true → Filled (entry_length self.now.root.words.now) (self.now.number + 1) plan.new.entries }
     {
         let Some(set) = self.good() else {
             return false;
         };
-        counts.entries[(self.number as usize) - 1] = set.length;
-        set.paths_good(counts) && set.rest_unused()
+        plan.entries[(self.number as usize) - 1] = set.length;
+        set.paths_good(plan) && set.rest_unused()
     }
 
     // "an automatic master has only its key and at least one path leading to it; at most 8 paths lead to a master"
@@ -270,26 +269,26 @@ impl<'a> GoodSet<'a> {
 
     // Path p takes the next head of its master.
     #[tactic(auto, using(crate::proofs::Paths::to_low, crate::proofs::Paths::to_place))]
-    fn count(&self, p: u16, counts: &mut Counts)
+    fn count(&self, p: u16, plan: &mut Plan)
         requires p_bound { (1 ≤ p) × (p ≤ 4) }
         requires p_value { path_good self.now.set.root.words.now self.now.set.number p ≡ true }
-        requires counted { Counted self.now.set.root.words.now self.now.set.number (p - 1) counts.old.leads counts.old.slots }
-        ensures counted_2 { Counted self.now.set.root.words.now self.now.set.number p counts.new.leads counts.new.slots }
-        ensures same { counts.new.entries ≡ counts.old.entries }
+        requires counted { Counted self.now.set.root.words.now self.now.set.number (p - 1) plan.old.leads plan.old.slots }
+        ensures counted_2 { Counted self.now.set.root.words.now self.now.set.number p plan.new.leads plan.new.slots }
+        ensures same { plan.new.entries ≡ plan.old.entries }
     {
         let master = (root::path_master(self.set.root, self.set.number, p) as usize) - 1;
         let path = 4 * ((self.set.number as usize) - 1) + ((p as usize) - 1);
-        counts.slots[path] = counts.leads[master];
-        counts.leads[master] += 1;
+        plan.slots[path] = plan.leads[master];
+        plan.leads[master] += 1;
     }
 
     // The paths of the set, judged and counted.
     #[tactic(auto, using(crate::proofs::Steps::steps, crate::proofs::Paths::spare_start))]
-    fn paths_good(&self, counts: &mut Counts) -> bool
-        requires counted { Counted self.now.set.root.words.now self.now.set.number 0 counts.old.leads counts.old.slots }
+    fn paths_good(&self, plan: &mut Plan) -> bool
+        requires counted { Counted self.now.set.root.words.now self.now.set.number 0 plan.old.leads plan.old.slots }
         ensures value { result ≡ all (path_count self.now.set.root.words.now self.now.set.number) (path_good self.now.set.root.words.now self.now.set.number) }
-        ensures counted_2 { result ≡ true → Counted self.now.set.root.words.now self.now.set.number (path_count self.now.set.root.words.now self.now.set.number) counts.new.leads counts.new.slots }
-        ensures same { counts.new.entries ≡ counts.old.entries }
+        ensures counted_2 { result ≡ true → Counted self.now.set.root.words.now self.now.set.number (path_count self.now.set.root.words.now self.now.set.number) plan.new.leads plan.new.slots }
+        ensures same { plan.new.entries ≡ plan.old.entries }
     {
         let mut spare = self.items;
         for p in 1..root::path_count(self.set.root, self.set.number) + 1 {
@@ -297,7 +296,7 @@ impl<'a> GoodSet<'a> {
                 return false;
             }
             spare = self.searched(p, spare);
-            self.count(p, counts);
+            self.count(p, plan);
         }
         true
     }
@@ -327,33 +326,29 @@ impl<'a> Head<'a> {
 
     // The sets judged, but for the paths that lead to them, their entries measured, and all paths counted.
     #[tactic(auto, using(crate::proofs::Steps::steps, crate::proofs::Steps::all_ends, crate::proofs::Counting::leads_whole, crate::proofs::Counting::slots_whole), unfolding(root::specs::Plan::Entries))]
-    pub fn sets_judged(&self) -> Option<Counts>
-        ensures value { is_some result ≡ all (sets self.now.root.words.now) (set_judged self.now.root.words.now) }
-        ensures leads { IfSome result (λ c. Leads self.now.root.words.now c.leads) }
-        ensures slots { IfSome result (λ c. Slots self.now.root.words.now c.slots) }
-        ensures entries { IfSome result (λ c. Entries self.now.root.words.now c.entries) }
+    pub fn sets_judged(&self, plan: &mut Plan) -> bool
+        ensures value { result ≡ all (sets self.now.root.words.now) (set_judged self.now.root.words.now) }
+        ensures leads { result ≡ true → Leads self.now.root.words.now plan.new.leads }
+        ensures slots { result ≡ true → Slots self.now.root.words.now plan.new.slots }
+        ensures entries { result ≡ true → Entries self.now.root.words.now plan.new.entries }
     {
-        let mut counts = Counts {
-            leads: [0; 16],
-            slots: [0; 64],
-            entries: [0; 16],
-        };
+        plan.leads = [0; 16];
         for s in 1..root::sets(self.root) + 1 {
-            if !self.set(s).judged(&mut counts) {
-                return None;
+            if !self.set(s).judged(plan) {
+                return false;
             }
         }
-        Some(counts)
+        true
     }
 
     // Each set, by the paths counted.
     #[tactic(auto, using(crate::proofs::Steps::steps, crate::proofs::Steps::all_ends), unfolding(root::specs::Plan::Leads))]
-    pub fn all_leading_good(&self, counts: &Counts) -> bool
-        requires { Leads self.now.root.words.now counts.now.leads }
+    pub fn all_leading_good(&self, plan: &Plan) -> bool
+        requires { Leads self.now.root.words.now plan.now.leads }
         ensures { result ≡ all (sets self.now.root.words.now) (leading_good self.now.root.words.now) }
     {
         for s in 1..root::sets(self.root) + 1 {
-            if !self.set(s).leading_good(counts.leads[(s as usize) - 1]) {
+            if !self.set(s).leading_good(plan.leads[(s as usize) - 1]) {
                 return false;
             }
         }

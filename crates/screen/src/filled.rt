@@ -3,7 +3,9 @@ ghost use Rattle.std.specs.Prelude.{◌≤◌};
 
 use crate::{Item, ListedSet};
 use area::{freed, live, mark};
-use root::{Kind, item_count, key_item, kind, path_count, path_master, path_search, path_sort};
+use root::{
+    Kind, Plan, item_count, key_item, kind, path_count, path_master, path_search, path_sort,
+};
 use spec::Shape;
 use std::io::Write;
 use std::{fmt, io};
@@ -41,7 +43,8 @@ impl fmt::Display for Fill {
 
 // Where a set stands in the area, if the root is good and has it.
 fn shape(root: &[u16], s: u16) -> Option<Shape> {
-    let root = layout::ruled(root)?;
+    let mut plan = Plan::ROOM;
+    let root = layout::ruled(root, &mut plan)?;
     let set = root.set(s)?;
     Some(set.shape())
 }

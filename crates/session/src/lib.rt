@@ -37,7 +37,8 @@ pub struct Good {
 }
 
 impl Default for Session {
-    // "fresh is all 0" (by hand, for its clause)
+    // "fresh is all 0" (By hand, for its clause: a derived one tells each word of the sixteen cursors by itself, and with it the proof of
+    // `lent::session_of` does not close.)
     fn default() -> Session
         ensures { result.cursors ≡ replicate 16 fresh }
     {

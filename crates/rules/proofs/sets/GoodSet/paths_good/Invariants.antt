@@ -8,5 +8,5 @@ abbrev pub invariant-loop-p : goal.invariant-loop-p
 invariant-loop-p l =
     (all (l.p - 1) (path_good l.self.set.root.words.now l.self.set.number) ≡ true)
     × Spare l.self.set.root.words.now l.self.set.number (l.p - 1) l.spare.bits
-    × Counted l.self.set.root.words.now l.self.set.number (l.p - 1) l.counts.leads l.counts.slots
-    × (l.counts.entries ≡ l.fn.counts.entries)
+    × Counted l.self.set.root.words.now l.self.set.number (l.p - 1) l.plan.leads l.plan.slots
+    × (l.plan.entries ≡ l.fn.plan.entries)

@@ -8,5 +8,5 @@ use Rattle.rules.proofs.sets.Head.sets_judged.Given as goal
 abbrev pub invariant-loop-s : goal.invariant-loop-s
 invariant-loop-s l =
     (all (l.s - 1) (set_judged l.self.root.words.now) ≡ true)
-    × Counted l.self.root.words.now l.s 0 l.counts.leads l.counts.slots
-    × Filled (entry_length l.self.root.words.now) l.s l.counts.entries
+    × Counted l.self.root.words.now l.s 0 l.plan.leads l.plan.slots
+    × Filled (entry_length l.self.root.words.now) l.s l.plan.entries
