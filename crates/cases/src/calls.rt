@@ -7,11 +7,18 @@ use session::{Answer, Session};
 use std::io;
 use std::io::Write;
 
+// The words that a call may change, in the room for them.
+fn keep(words: &[u16], kept: &mut Vec<u16>) -> io::Result<()> {
+    kept.clear();
+    kept.extend_from_slice(words)?;
+    Ok(())
+}
+
 impl Stage {
     pub fn make<W: Write>(&mut self, writer: &mut W) -> io::Result<()> {
-        let kept = self.area.clone()?;
+        keep(&self.area, &mut self.kept)?;
         let status = engine::make(&self.root, &mut self.area);
-        made(writer, status, &kept, &self.area)
+        made(writer, status, &self.kept, &self.area)
     }
 
     // A find changes no lent slice.
@@ -35,7 +42,7 @@ impl Stage {
         number: u32,
         value: &[u16],
     ) -> io::Result<()> {
-        let kept = self.buffer.clone()?;
+        keep(&self.buffer, &mut self.kept)?;
         let answer = engine::get(
             &self.root,
             &self.area,
@@ -48,7 +55,7 @@ impl Stage {
         );
         let lent = Lent {
             what: "  buffer ",
-            before: &kept,
+            before: &self.kept,
             after: &self.buffer,
         };
         told(writer, Verb::Get, &mut self.session, answer, Some(lent))
@@ -63,11 +70,11 @@ impl Stage {
     ) -> io::Result<()>
         requires { F.IsAlwaysCallable call }
     {
-        let kept = self.area.clone()?;
+        keep(&self.area, &mut self.kept)?;
         let answer = call(&self.root, &mut self.area, self.session);
         let lent = Lent {
             what: "  area ",
-            before: &kept,
+            before: &self.kept,
             after: &self.area,
         };
         told(writer, verb, &mut self.session, answer, Some(lent))

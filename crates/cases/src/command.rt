@@ -41,7 +41,23 @@ const NAMES: [(&str, Verb); 14] = [
 ];
 
 // The most numbers of a line, and the most words of a root or a buffer; the longest root of the script has 565 words.
-const ROOM: usize = 1024;
+pub const ROOM: usize = 1024;
+
+// A line's numbers, and those of them that a call is lent as words. Every line fills the same two, so that none needs memory.
+#[derive(Drop)]
+pub struct Rooms {
+    pub numbers: Vec<u32>,
+    pub words: Vec<u16>,
+}
+
+impl Rooms {
+    pub fn new(alloc: Global) -> Result<Rooms, AllocError> {
+        Ok(Rooms {
+            numbers: Vec::with_capacity(alloc, ROOM)?,
+            words: Vec::with_capacity(alloc, ROOM)?,
+        })
+    }
+}
 
 // A line that can't be read, or what the system says.
 #[derive(Drop)]
@@ -68,9 +84,10 @@ impl From<io::Error> for Failed {
     }
 }
 
-// What a line asks for; nothing where it is read for its own sake: blank, a comment, which begins with '#', or an answer worked
-// out by hand, which begins with '='. The second program holds its own answer to that, here it is only written.
-pub fn command_of(alloc: Global, line: &[u8]) -> Result<Option<(Verb, Vec<u32>)>, Failed> {
+// What a line asks for, with its numbers in their room; nothing where it is read for its own sake: blank, a comment, which begins
+// with '#', or an answer worked out by hand, which begins with '='. The second program holds its own answer to that, here it is only
+// written.
+pub fn command_of(line: &[u8], numbers: &mut Vec<u32>) -> Result<Option<Verb>, Failed> {
     let mut words = lines::Words::new(line);
     let Some(name) = words.next() else {
         return Ok(None);
@@ -82,14 +99,14 @@ pub fn command_of(alloc: Global, line: &[u8]) -> Result<Option<(Verb, Vec<u32>)>
         .iter()
         .find(|(text, _)| is_word(name, text.as_bytes()));
     let (_, verb) = named.ok_or(Failed::Unreadable)?;
-    let mut numbers = Vec::new(alloc);
+    numbers.clear();
     for word in words {
         if numbers.len() == ROOM {
             return Err(Failed::Unreadable);
         }
         numbers.push(number_of(word).ok_or(Failed::Unreadable)?)?;
     }
-    Ok(Some((*verb, numbers)))
+    Ok(Some(*verb))
 }
 
 // Numbers that are words, after those that are there.
@@ -103,8 +120,14 @@ pub fn lay(numbers: &[u32], words: &mut Vec<u16>) -> Result<(), Failed> {
     Ok(())
 }
 
-pub fn words_of(alloc: Global, numbers: &[u32]) -> Result<Vec<u16>, Failed> {
-    let mut words = Vec::new(alloc);
-    lay(numbers, &mut words)?;
-    Ok(words)
+// Numbers that are words, in place of those that are there.
+pub fn lay_anew(numbers: &[u32], words: &mut Vec<u16>) -> Result<(), Failed> {
+    words.clear();
+    lay(numbers, words)
+}
+
+// Numbers as the words that a call is lent, in a room for them.
+pub fn words_of<'a>(numbers: &[u32], room: &'a mut Vec<u16>) -> Result<&'a [u16], Failed> {
+    lay_anew(numbers, room)?;
+    Ok(room.as_slice())
 }

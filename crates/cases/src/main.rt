@@ -8,17 +8,20 @@ mod command;
 mod report;
 mod stage;
 
-use command::Failed;
+use command::{Failed, Rooms};
 use stage::Stage;
 use std::alloc::Global;
 use std::io;
 use std::io::{BufWriter, Read, Write};
 
-// Works the script up to its end, or to a line that can't be read: what follows would be worked on another base than was meant.
+// Works the script up to its end, or to a line that can't be read: what follows would be worked on another base than was meant. All
+// rooms are made before the first line, so that memory can't run out between two calls.
 fn work<W: Write>(alloc: Global, writer: &mut W, text: &[u8]) -> io::Result<()> {
-    let mut stage = Stage::new(alloc);
+    let mut stage = Stage::new(alloc)?;
+    let mut rooms = Rooms::new(alloc)?;
     for (i, line) in text.split_inclusive(|b| *b == b'\n').enumerate() {
-        match stage.work_line(writer, line.strip_suffix(b"\n").unwrap_or(line)) {
+        let line = line.strip_suffix(b"\n").unwrap_or(line);
+        match stage.work_line(writer, line, &mut rooms) {
             Ok(()) => {}
             Err(Failed::Unreadable) => return writeln!(writer, "line {} can't be read", i + 1),
             Err(Failed::System(error)) => return Err(error),

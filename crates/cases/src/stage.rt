@@ -1,9 +1,9 @@
 // What the calls work on, and what a line of the script does to it.
-use crate::command::{Failed, Verb, command_of, lay, words_of};
+use crate::command::{Failed, ROOM, Rooms, Verb, command_of, lay, lay_anew, words_of};
 use crate::report;
 use session::Session;
 use spec::Cursor;
-use std::alloc::Global;
+use std::alloc::{AllocError, Global};
 use std::io;
 use std::io::Write;
 use words::put_word;
@@ -11,14 +11,14 @@ use words::put_word;
 // The most words of an area; the largest of the script has 53,598.
 const AREA_ROOM: usize = 65536;
 
-// The words that the script has set are just those that a call is lent.
+// The words that the script has set are just those that a call is lent. Kept is what a call may change, as it was before.
 #[derive(Drop)]
 pub struct Stage {
-    alloc: Global,
     pub session: Session,
     pub root: Vec<u16>,
     pub area: Vec<u16>,
     pub buffer: Vec<u16>,
+    pub kept: Vec<u16>,
 }
 
 // One word, if it is among those that are lent.
@@ -28,14 +28,15 @@ fn poke(words: &mut [u16], at: u32, word: u32) -> Result<(), Failed> {
 }
 
 impl Stage {
-    pub fn new(alloc: Global) -> Stage {
-        Stage {
-            alloc,
+    // Each room as large as it may get: no line needs more.
+    pub fn new(alloc: Global) -> Result<Stage, AllocError> {
+        Ok(Stage {
             session: Session::default(),
-            root: Vec::new(alloc),
-            area: Vec::new(alloc),
-            buffer: Vec::new(alloc),
-        }
+            root: Vec::with_capacity(alloc, ROOM)?,
+            area: Vec::with_capacity(alloc, AREA_ROOM)?,
+            buffer: Vec::with_capacity(alloc, ROOM)?,
+            kept: Vec::with_capacity(alloc, AREA_ROOM)?,
+        })
     }
 
     fn zeros(&mut self, n: u32) -> Result<(), Failed> {
@@ -48,11 +49,18 @@ impl Stage {
         Ok(())
     }
 
-    fn set_cursor(&mut self, set: u32, c: Cursor) -> Result<(), Failed> {
+    // By the numbers as a report writes them.
+    fn set_cursor(&mut self, set: u32, numbers: [u32; 4]) -> Result<(), Failed> {
         if set == 0 || 16 < set {
             return Err(Failed::Unreadable);
         }
-        self.session.cursors[set as usize - 1] = c;
+        let [current, path, back, fore] = numbers;
+        self.session.cursors[set as usize - 1] = Cursor {
+            current,
+            path,
+            back,
+            fore,
+        };
         Ok(())
     }
 
@@ -62,44 +70,33 @@ impl Stage {
         writer: &mut W,
         verb: Verb,
         numbers: &[u32],
+        room: &mut Vec<u16>,
     ) -> Result<(), Failed> {
         match (verb, numbers) {
-            (Verb::Root, words) => {
-                self.root.clear();
-                lay(words, &mut self.root)?;
-            }
+            (Verb::Root, words) => lay_anew(words, &mut self.root)?,
             (Verb::MoreRoot, words) => lay(words, &mut self.root)?,
             (Verb::RootWord, [at, word]) => poke(&mut self.root, *at, *word)?,
             (Verb::Zeros, [n]) => self.zeros(*n)?,
             (Verb::AreaWord, [at, word]) => poke(&mut self.area, *at, *word)?,
             (Verb::Cursor, [set, current, path, back, fore]) => {
-                let c = Cursor {
-                    current: *current,
-                    path: *path,
-                    back: *back,
-                    fore: *fore,
-                };
-                self.set_cursor(*set, c)?;
+                self.set_cursor(*set, [*current, *path, *back, *fore])?;
             }
-            (Verb::Buffer, words) => {
-                self.buffer.clear();
-                lay(words, &mut self.buffer)?;
-            }
+            (Verb::Buffer, words) => lay_anew(words, &mut self.buffer)?,
             (Verb::Reset, []) => self.session = Session::default(),
             (Verb::New, []) => self.make(writer)?,
             (Verb::Find, [set, item, value @ ..]) => {
                 let (set, item) = (u16::try_from(*set)?, u16::try_from(*item)?);
-                self.find(writer, set, item, &words_of(self.alloc, value)?)?;
+                self.find(writer, set, item, words_of(value, room)?)?;
             }
             (Verb::Get, [set, mode, number, value @ ..]) => {
                 let (set, mode) = (u16::try_from(*set)?, u16::try_from(*mode)?);
-                self.get(writer, set, mode, *number, &words_of(self.alloc, value)?)?;
+                self.get(writer, set, mode, *number, words_of(value, room)?)?;
             }
             (Verb::Put, [set, entry @ ..]) => {
-                self.put(writer, u16::try_from(*set)?, &words_of(self.alloc, entry)?)?;
+                self.put(writer, u16::try_from(*set)?, words_of(entry, room)?)?;
             }
             (Verb::Update, [set, entry @ ..]) => {
-                self.update(writer, u16::try_from(*set)?, &words_of(self.alloc, entry)?)?;
+                self.update(writer, u16::try_from(*set)?, words_of(entry, room)?)?;
             }
             (Verb::Delete, [set]) => self.delete(writer, u16::try_from(*set)?)?,
             _ => return Err(Failed::Unreadable),
@@ -107,10 +104,15 @@ impl Stage {
         Ok(())
     }
 
-    pub fn work_line<W: Write>(&mut self, writer: &mut W, line: &[u8]) -> Result<(), Failed> {
+    pub fn work_line<W: Write>(
+        &mut self,
+        writer: &mut W,
+        line: &[u8],
+        rooms: &mut Rooms,
+    ) -> Result<(), Failed> {
         report::echo(writer, line)?;
-        match command_of(self.alloc, line)? {
-            Some((verb, numbers)) => self.work(writer, verb, &numbers),
+        match command_of(line, &mut rooms.numbers)? {
+            Some(verb) => self.work(writer, verb, &rooms.numbers, &mut rooms.words),
             None => Ok(()),
         }
     }
