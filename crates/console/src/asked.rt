@@ -1,5 +1,5 @@
-// What a command asks of the engine, read from its line and found good. (Root, rest of the line and words are three: each question reads
-// on in the line by itself.)
+// What a command asks of the engine, read from its line and found good. (Root, rest of the line and words travel together, and are three:
+// the root is the desk's and only read, the rest is read on by each question, and the words are room that it fills.)
 ghost use Rattle.std.specs.Prelude.{◌≤◌, IsTrue};
 
 use crate::failed::Failed;
@@ -46,6 +46,7 @@ pub fn ask_entry<'a>(
     mut rest: Rest<'a>,
     entry: &mut Vec<u16>,
 ) -> Result<u16, Failed<'a>> {
+    entry.clear();
     let set = rest.word("the set")?;
     if has_set(root, set) {
         let listed = ListedSet { root, number: set };
@@ -77,6 +78,7 @@ pub fn ask_chain<'a>(
     mut rest: Rest<'a>,
     value: &mut Vec<u16>,
 ) -> Result<Chain, Failed<'a>> {
+    value.clear();
     let set = rest.word("the set")?;
     let item = rest.word("the search item")?;
     ask_value(root, item, &mut rest, value)?;
@@ -98,6 +100,7 @@ pub fn ask_get<'a>(
     mut rest: Rest<'a>,
     key: &mut Vec<u16>,
 ) -> Result<Get, Failed<'a>> {
+    key.clear();
     let set = rest.word("the set")?;
     let mode = rest.word("the mode")?;
     let mut record = 0;

@@ -52,9 +52,9 @@ impl Desk {
     }
 
     pub fn find<'a, W: Write>(&mut self, writer: &mut W, rest: Rest<'a>) -> Result<(), Failed<'a>> {
-        let mut value = Vec::new(self.alloc);
-        let Chain { set, item } = ask_chain(&self.root, rest, &mut value)?;
-        let answer = engine::find(&self.root, &self.area, self.session, set, item, &value);
+        let value = &mut self.rooms.entry;
+        let Chain { set, item } = ask_chain(&self.root, rest, value)?;
+        let answer = engine::find(&self.root, &self.area, self.session, set, item, value);
         let status = self.answered(answer)?;
         let lines = Lines(status.number());
         let (first, last) = (status.fore(), status.back());
@@ -63,8 +63,8 @@ impl Desk {
     }
 
     pub fn get<'a, W: Write>(&mut self, writer: &mut W, rest: Rest<'a>) -> Result<(), Failed<'a>> {
-        let mut key = Vec::new(self.alloc);
-        let Get { set, mode, record } = ask_get(&self.root, rest, &mut key)?;
+        let key = &mut self.rooms.entry;
+        let Get { set, mode, record } = ask_get(&self.root, rest, key)?;
         // The engine writes into room that it is lent; 512 words are the longest entry.
         let mut entry = [0u16; 512];
         let answer = engine::get(
@@ -74,7 +74,7 @@ impl Desk {
             set,
             mode,
             record,
-            &key,
+            key,
             &mut entry,
         );
         let status = self.answered(answer)?;
@@ -112,14 +112,14 @@ impl Desk {
 
     // A chain drawn as a line of records, forward or backward. The person's own cursors stay.
     pub fn chain<'a, W: Write>(
-        &self,
+        &mut self,
         writer: &mut W,
         rest: Rest<'a>,
         mode: u16,
     ) -> Result<(), Failed<'a>> {
-        let mut value = Vec::new(self.alloc);
-        let Chain { set, item } = ask_chain(&self.root, rest, &mut value)?;
-        let found = engine::find(&self.root, &self.area, self.session, set, item, &value);
+        let value = &mut self.rooms.entry;
+        let Chain { set, item } = ask_chain(&self.root, rest, value)?;
+        let found = engine::find(&self.root, &self.area, self.session, set, item, value);
         let status = Status(found.status).accepted()?;
         write!(writer, "{}", Lines(status.number()))?;
         let mut cursors = found.session;
@@ -148,9 +148,9 @@ impl Desk {
     }
 
     pub fn put<'a, W: Write>(&mut self, writer: &mut W, rest: Rest<'a>) -> Result<(), Failed<'a>> {
-        let mut entry = Vec::new(self.alloc);
-        let set = ask_entry(&self.root, rest, &mut entry)?;
-        let answer = engine::put(&self.root, &mut self.area, self.session, set, &entry);
+        let entry = &mut self.rooms.entry;
+        let set = ask_entry(&self.root, rest, entry)?;
+        let answer = engine::put(&self.root, &mut self.area, self.session, set, entry);
         let passed = answer.passed;
         let status = self.answered(answer)?;
         write!(writer, "put as record {}", status.record())?;
@@ -164,9 +164,9 @@ impl Desk {
         writer: &mut W,
         rest: Rest<'a>,
     ) -> Result<(), Failed<'a>> {
-        let mut entry = Vec::new(self.alloc);
-        let set = ask_entry(&self.root, rest, &mut entry)?;
-        let answer = engine::update(&self.root, &mut self.area, self.session, set, &entry);
+        let entry = &mut self.rooms.entry;
+        let set = ask_entry(&self.root, rest, entry)?;
+        let answer = engine::update(&self.root, &mut self.area, self.session, set, entry);
         self.answered(answer)?;
         writeln!(writer, "updated")?;
         Ok(())

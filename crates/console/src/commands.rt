@@ -92,7 +92,7 @@ fn file_name<'a>(mut rest: Rest<'a>) -> Result<&'a [u8], Complaint<'a>> {
 
 impl Desk {
     // What a line asks for: nothing, or a command. A line that begins with # is a remark.
-    fn carry_out<'a, R: Files + AllocGlobal, W: Write>(
+    fn carry_out<'a, R: Files, W: Write>(
         &mut self,
         rt: &R,
         writer: &mut W,
@@ -128,7 +128,7 @@ impl Desk {
     }
 
     // One line, carried out, or told why not; it breaks off where the person leaves.
-    pub fn turn<R: Files + AllocGlobal, W: Write>(
+    pub fn turn<R: Files, W: Write>(
         &mut self,
         rt: &R,
         writer: &mut W,

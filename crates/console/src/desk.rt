@@ -1,4 +1,4 @@
-// What lies before the person: a root and an area, the cursors, and the last call's status.
+// What lies before the person: a root and an area, the cursors, and the last call's status; and the rooms that commands work in.
 use screen::Refused;
 use session::Session;
 use std::alloc::{AllocError, Global};
@@ -58,37 +58,68 @@ impl fmt::Display for Status {
     }
 }
 
+// The most words that the console keeps of a base: of a root and its area together, and of an area.
+pub const ROOM: usize = 131072;
+
+// The bytes of a part of a file.
+pub const PART: usize = 4096;
+
+// Rooms for what a command reads and writes. Each has all its memory from the start, so that no command wants more.
+#[derive(Drop)]
+pub struct Rooms {
+    // A value or an entry that a person wrote; 16 items of 32 words are the longest.
+    pub entry: Vec<u16>,
+    // As much of a root's text as is read, from its beginning.
+    pub text: Vec<u8>,
+    // A part of a base in a file, and the words that a file was found to hold.
+    pub part: Vec<u8>,
+    pub words: Vec<u16>,
+    // The name of a new file.
+    pub path: String,
+}
+
+impl Rooms {
+    fn new(alloc: Global) -> Result<Rooms, AllocError> {
+        Ok(Rooms {
+            entry: Vec::with_capacity(alloc, 512)?,
+            text: vec![in alloc; 0; 65536]?,
+            part: Vec::with_capacity(alloc, PART)?,
+            words: Vec::with_capacity(alloc, ROOM)?,
+            path: String::with_capacity(alloc, 4096)?,
+        })
+    }
+}
+
 #[derive(Drop)]
 pub struct Desk {
-    pub alloc: Global,
     pub root: Vec<u16>,
     pub area: Vec<u16>,
     pub session: Session,
     pub status: Status,
+    pub rooms: Rooms,
 }
 
 impl Desk {
-    // The desk over a root and an area, with fresh cursors.
-    pub fn new(alloc: Global, root: Vec<u16>, area: Vec<u16>) -> Desk {
-        Desk {
-            alloc,
-            root,
-            area,
-            session: Session::default(),
-            status: Status([0; 10]),
-        }
-    }
-
     // "Items: 1 ACCT K1, 2 DATE K1, 3 QTY I1, 4 NAME X2. Set 1, manual, capacity 5: items 1, 4, key 1. Set 2, automatic, capacity
     // 5: item 2. Set 3, detail, capacity 4: items 1, 2, 3; paths (1, 1, 2) and (2, 2, 0)." "area 68 + 58 + 47 = 173"
     pub fn sample(alloc: Global) -> Result<Desk, AllocError> {
-        let mut root = vec![in alloc; 0; 109]?;
+        // The longest good root has 658 words.
+        let mut root = Vec::with_capacity(alloc, 1024)?;
+        root.resize(109, 0)?;
         lay(&mut root, 0, &[4, 3, 2, 1, 2, 1, 1, 1, 3, 2]);
         lay(&mut root, 10, &[1, 5, 2, 1, 0, 1, 4]);
         lay(&mut root, 43, &[2, 5, 1, 2, 0, 2]);
         lay(&mut root, 76, &[3, 4, 3, 0, 2, 1, 2, 3]);
         lay(&mut root, 97, &[1, 1, 2, 2, 2, 0]);
-        Ok(Desk::new(alloc, root, vec![in alloc; 0; 173]?))
+        let mut area = Vec::with_capacity(alloc, ROOM)?;
+        area.resize(173, 0)?;
+        Ok(Desk {
+            root,
+            area,
+            session: Session::default(),
+            status: Status([0; 10]),
+            rooms: Rooms::new(alloc)?,
+        })
     }
 
     // The cursor of each set of the root. No Display: it is told of the root and the cursors together.

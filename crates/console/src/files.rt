@@ -1,22 +1,23 @@
 // A root from a file of numbers, and a base kept in a file: the root's length in a word, the root, the area, every word high
-// byte first. What is read is looked at whole before anything on the desk changes.
-use crate::desk::Desk;
+// byte first. What is read is looked at whole, in rooms of its own, before anything on the desk changes.
+ghost use Rattle.std.specs.Prelude.{◌≤◌, length};
+
+use crate::desk::{Desk, PART, ROOM, Rooms, Status};
 use crate::failed::{Failed, Fault};
 use crate::rest::word_of;
 use lines::Words;
-use std::alloc::{AllocError, Global};
+use session::Session;
+use std::alloc::AllocError;
 use std::fs::OpenOptions;
-use std::io::{BufWriter, ErrorKind, Read, Write};
+use std::io::{ErrorKind, Read, Write};
 use std::os::unix::fs::OpenOptionsExt;
 use std::rt::Files;
 use std::{fs, io, str};
 
-// The most words that the console keeps of a base: of a root and its area together, and of an area.
-const ROOM: usize = 131072;
-
 // The words of the area that a root means; none for a root that breaks a rule.
 fn area_words(root: &[u16]) -> Option<usize> {
-    Some(layout::ruled(root)?.area_length() as usize)
+    let mut plan = root::Plan::ROOM;
+    Some(layout::ruled(root, &mut plan)?.area_length() as usize)
 }
 
 // A file to read, if there is one that can be opened. A name that is not text names none.
@@ -24,41 +25,67 @@ fn open_read<R: Files>(rt: &R, name: &[u8]) -> Option<R::File> {
     fs::open(rt, str::from_utf8(name).ok()?).ok()
 }
 
-// The bytes of a file, as many as there is room for. A read that fails is taken as the end.
-fn read_bytes<I: Read + Drop>(alloc: Global, file: I, room: u64) -> Vec<u8> {
-    let mut bytes = Vec::new(alloc);
-    let _ = file.take(room).read_to_end(&mut bytes);
-    bytes
+// Reads until the room is full or the file ends, and answers how many bytes were read. A read that fails is taken as the end. (A while
+// loop: `read_to_end` into a list asks for more room once the list is full.)
+fn read_full<I: Read>(file: &mut I, room: &mut [u8]) -> usize
+    ensures { result ≤ length room.new }
+{
+    let mut done = 0;
+    while done < room.len() {
+        match file.read(&mut room[done..]) {
+            Ok(n) if 0 < n => done += n,
+            _ => break,
+        }
+    }
+    done
+}
+
+// The next part of a file: shorter than a part where the file ends.
+fn read_part<I: Read>(file: &mut I, part: &mut Vec<u8>) -> Result<(), AllocError> {
+    part.resize(PART, 0)?;
+    let n = read_full(file, part);
+    part.truncate(n);
+    Ok(())
 }
 
 // The numbers of a text, each a word.
-fn numbers<'a>(text: &'a [u8], out: &mut Vec<u16>) -> Result<(), Failed<'a>> {
+fn numbers<'a>(text: &'a [u8], words: &mut Vec<u16>) -> Result<(), Failed<'a>> {
+    words.clear();
     for digits in Words::new(text) {
         let word = word_of("a word of the root", Some(digits))?;
-        out.push(word).map_err(AllocError::from)?;
+        words.push(word).map_err(AllocError::from)?;
     }
     Ok(())
 }
 
-// The base into a file.
-fn write_base<F: Write + Drop>(alloc: Global, file: F, desk: &Desk) -> io::Result<()> {
-    let mut out = BufWriter::new(alloc, file)?;
-    let head = (desk.root.len() % 65536) as u16;
-    out.write_all(&head.to_be_bytes())?;
-    for word in desk.root.iter().chain(desk.area.iter()) {
-        out.write_all(&word.to_be_bytes())?;
+// Words into a file, a part after another.
+fn write_words<F: Write>(file: &mut F, words: &[u16], part: &mut Vec<u8>) -> io::Result<()> {
+    for some in words.chunks(PART / 2) {
+        part.resize(2 * some.len(), 0)?;
+        lent::unpack(some, part);
+        file.write_all(part)?;
     }
-    out.flush()
+    Ok(())
+}
+
+// The base into a file, which is closed after.
+fn write_base<F: Write + Drop>(mut file: F, desk: &mut Desk) -> io::Result<()> {
+    let part = &mut desk.rooms.part;
+    let head = (desk.root.len() % 65536) as u16;
+    write_words(&mut file, &[head], part)?;
+    write_words(&mut file, &desk.root, part)?;
+    write_words(&mut file, &desk.area, part)
 }
 
 // A new file that only its owner may read and write, beside the one named: it has the first number that no file has yet.
-fn create_beside<R: Files + AllocGlobal>(rt: &R, name: &str) -> Option<(String, R::File)> {
+fn create_beside<R: Files>(rt: &R, name: &str, path: &mut String) -> Option<R::File> {
     for n in 0..1000000 {
-        let path = format!(in rt.alloc(); "{name}.{n:06}").ok()?;
+        path.clear();
+        write!(path, "{name}.{n:06}").ok()?;
         let mut how = OpenOptions::new();
         how.write(true).create_new(true).mode(0o600);
         match how.open(rt, path.as_str()) {
-            Ok(file) => return Some((path, file)),
+            Ok(file) => return Some(file),
             Err(e) if e.kind() == ErrorKind::AlreadyExists => {}
             Err(_) => return None,
         }
@@ -67,33 +94,44 @@ fn create_beside<R: Files + AllocGlobal>(rt: &R, name: &str) -> Option<(String, 
 }
 
 // The base into a new file, which takes the name once all is written; a file that had the name stays until then.
-fn save_by<R: Files + AllocGlobal>(rt: &R, name: &[u8], desk: &Desk) -> Option<()> {
+fn save_by<R: Files>(rt: &R, name: &[u8], desk: &mut Desk) -> Option<()> {
     if 4000 < name.len() {
         return None;
     }
     let name = str::from_utf8(name).ok()?;
-    let (path, file) = create_beside(rt, name)?;
-    let mut saved = write_base(rt.alloc(), file, desk);
+    let file = create_beside(rt, name, &mut desk.rooms.path)?;
+    let mut saved = write_base(file, desk);
+    let path = desk.rooms.path.as_str();
     if saved.is_ok() {
-        saved = fs::rename(rt, path.as_str(), name);
+        saved = fs::rename(rt, path, name);
     }
     if saved.is_err() {
-        let _ = fs::remove_file(rt, path.as_str());
+        let _ = fs::remove_file(rt, path);
     }
     saved.ok()
 }
 
 // The words of a file, if they are whole and there is room for them.
-fn read_words<I: Read + Drop>(alloc: Global, file: I) -> Result<Option<Vec<u16>>, AllocError> {
-    let bytes = read_bytes(alloc, file, 2 * (ROOM as u64) + 1);
-    if 2 * ROOM < bytes.len() || bytes.len() % 2 == 1 {
-        return Ok(None);
+fn read_words<'a, I: Read>(
+    file: &mut I,
+    name: &'a [u8],
+    rooms: &mut Rooms,
+) -> Result<(), Failed<'a>> {
+    let Rooms { part, words, .. } = rooms;
+    words.clear();
+    // As many parts as the room takes, and one more that holds the end.
+    for _ in 0..=2 * ROOM / PART {
+        read_part(file, part)?;
+        let (pairs, odd) = part.as_chunks();
+        if !odd.is_empty() || ROOM < words.len() + pairs.len() {
+            break;
+        }
+        words.extend(pairs.iter().map(|pair| u16::from_be_bytes(*pair)))?;
+        if part.len() < PART {
+            return Ok(());
+        }
     }
-    let mut words = Vec::new(alloc);
-    for pair in bytes.chunks_exact(2) {
-        words.push(u16::from_be_bytes([pair[0], pair[1]]))?;
-    }
-    Ok(Some(words))
+    Err(Failed::File(name, Fault::Long))
 }
 
 // The root and the area that the words of a file are.
@@ -113,30 +151,31 @@ fn base_of(words: &[u16]) -> Result<(&[u16], &[u16]), Fault> {
 
 impl Desk {
     // A root from a file, and an empty base of it.
-    pub fn take_root<'a, R: Files + AllocGlobal, W: Write>(
+    pub fn take_root<'a, R: Files, W: Write>(
         &mut self,
         rt: &R,
         writer: &mut W,
         name: &'a [u8],
     ) -> Result<(), Failed<'a>> {
-        let file = open_read(rt, name).ok_or(Failed::File(name, Fault::NotOpened))?;
-        let text = read_bytes(rt.alloc(), file, 65536);
-        let mut root = Vec::new(rt.alloc());
-        if let Err(failed) = numbers(&text, &mut root) {
+        let mut file = open_read(rt, name).ok_or(Failed::File(name, Fault::NotOpened))?;
+        let n = read_full(&mut file, &mut self.rooms.text);
+        if let Err(failed) = numbers(&self.rooms.text[..n], &mut self.rooms.words) {
             failed.tell(writer)?;
             return Ok(());
         }
-        let size = area_words(&root).ok_or(Failed::File(name, Fault::NoGoodRoot))?;
+        let words = &self.rooms.words;
+        let size = area_words(words).ok_or(Failed::File(name, Fault::NoGoodRoot))?;
         if ROOM < size {
             return Err(Failed::File(name, Fault::LargeRoot));
         }
-        let area = vec![in rt.alloc(); 0; size]?;
-        *self = Desk::new(rt.alloc(), root, area);
+        self.root.clear();
+        self.root.extend_from_slice(words)?;
+        self.area.resize(size, 0)?;
         self.make(writer)
     }
 
-    pub fn save<'a, R: Files + AllocGlobal, W: Write>(
-        &self,
+    pub fn save<'a, R: Files, W: Write>(
+        &mut self,
         rt: &R,
         writer: &mut W,
         name: &'a [u8],
@@ -147,17 +186,21 @@ impl Desk {
     }
 
     // A base from a file, with fresh cursors.
-    pub fn load<'a, R: Files + AllocGlobal, W: Write>(
+    pub fn load<'a, R: Files, W: Write>(
         &mut self,
         rt: &R,
         writer: &mut W,
         name: &'a [u8],
     ) -> Result<(), Failed<'a>> {
-        let file = open_read(rt, name).ok_or(Failed::File(name, Fault::NotOpened))?;
-        let words = read_words(rt.alloc(), file)?.ok_or(Failed::File(name, Fault::Long))?;
-        let (root, area) = base_of(&words).map_err(|fault| Failed::File(name, fault))?;
-        let (root, area) = (root.to_vec(rt.alloc())?, area.to_vec(rt.alloc())?);
-        *self = Desk::new(rt.alloc(), root, area);
+        let mut file = open_read(rt, name).ok_or(Failed::File(name, Fault::NotOpened))?;
+        read_words(&mut file, name, &mut self.rooms)?;
+        let (root, area) = base_of(&self.rooms.words).map_err(|fault| Failed::File(name, fault))?;
+        self.root.clear();
+        self.root.extend_from_slice(root)?;
+        self.area.clear();
+        self.area.extend_from_slice(area)?;
+        self.session = Session::default();
+        self.status = Status([0; 10]);
         writeln!(writer, "loaded, {} words of area", self.area.len())?;
         Ok(())
     }

@@ -89,7 +89,7 @@ impl<I: Read> Source<I> {
     }
 
     // One line, carried out; one that is too long isn't.
-    fn serve<R: Files + AllocGlobal, W: Write>(
+    fn serve<R: Files, W: Write>(
         &self,
         rt: &R,
         writer: &mut W,
@@ -109,7 +109,8 @@ impl<I: Read> Source<I> {
 
     fn run<R: Files + AllocGlobal, W: Write>(&mut self, rt: &R, writer: &mut W) -> io::Result<()> {
         let mut desk = Desk::sample(rt.alloc())?;
-        let mut line = Vec::new(rt.alloc());
+        // A byte more than the longest line: so a longer one shows.
+        let mut line = Vec::with_capacity(rt.alloc(), LONGEST + 1)?;
         writeln!(
             writer,
             "Maltorhu, on the sample base of three sets, empty. help tells the commands."
