@@ -1,17 +1,21 @@
 // The area's map, records, heads, links and synonym words, each read and written by one function; what is read whole is held
 // against the rules of answer 18. A function that writes keeps what it overwrites in the journal. (Area or journal, shape and record
-// are three parameters: a path's turn goes between two sets, and a walk from record to record. Map, marks and links have a function
+// are three parameters: a path's turn goes between two sets, and a walk from record to record. Above this crate, too, a record and its
+// synonym words, a detail and its path are two each, as the definitions take them. Map, marks and links have a function
 // for each definition.)
 #![tactic(auto)]
 
 ghost use Rattle.std.specs.Prelude.{◌≡◌, true, IfOk, ◌||◌, ◌&&◌, not, ◌+◌, ◌-◌, ◌*◌, ◌≤◌, ◌<◌, ◌^◌, length, eqb, leb};
-ghost use Rattle.spec.specs.Area.{blank, copy_part, entry_at, freed, follow, go_live, go_unused, live, map_bit, map_place, mark, mend, peek, peek_link, peek_links, peek_part, place, poke, poke_link, put_entry_at, read, read_head, read_links, read_synonym, set_freed, set_mark, set_synonyms, synonyms, value_at};
+ghost use Rattle.spec.specs.Area.{blank, copy_part, entry_at, freed, follow, go_live, go_unused, live, map_bit, map_place, mark, mend, mend_back, mend_fore, mend_synonym_back, mend_synonym_fore, next_freed, peek, peek_link, peek_links, peek_part, place, poke, poke_link, put_entry_at, read, read_head, read_links, read_synonym, set_freed, set_head_count, set_mark, set_next_freed, set_synonym_count, set_synonyms, synonym_count, synonyms, value_at};
 ghost use Rattle.journal.specs.Journal.{Back};
 ghost use Rattle.area.specs.MapLaws.{Alike};
 
 use journal::Journal;
 use sound::{Entry, Place};
-use spec::{Field, Head, Links, Refusal, Shape};
+use spec::{
+    FIRST_AT, FORE_AT, Field, Head, LAST_AT, Links, Refusal, SYNONYM_BACK_AT, SYNONYM_FORE_AT,
+    Shape,
+};
 use words::{Bit, bit_off, bit_on, bit_set, long_at, part, word};
 
 // The product of a record's number and a record's words.
@@ -42,14 +46,14 @@ fn place_in(s: Shape, r: u32, i: u16) -> Place
 
 // The word of the map that has record r's bit, and the bit's place in it: record 1 in the highest bit of the first word.
 #[tactic(auto, unfolding(spec::specs::Area::map_place))]
-fn map_word(s: Shape, r: u32) -> usize
+fn map_place(s: Shape, r: u32) -> usize
     ensures { (result ≡ map_place s r) × (result < 2 ^ 33) }
 {
     (s.map as usize) + (r.saturating_sub(1) / 16) as usize
 }
 
 #[tactic(auto, unfolding(spec::specs::Area::map_bit))]
-fn map_bit_of(r: u32) -> Bit
+fn map_bit(r: u32) -> Bit
     ensures { result ≡ map_bit r }
 {
     Bit {
@@ -61,8 +65,8 @@ fn map_bit_of(r: u32) -> Bit
 pub fn live(area: &[u16], s: Shape, r: u32) -> bool
     ensures { result ≡ live s area.now r }
 {
-    let w = word(area, map_word(s, r));
-    bit_set(w, map_bit_of(r))
+    let w = word(area, map_place(s, r));
+    bit_set(w, map_bit(r))
 }
 
 // "one bit per record, 1 = live, record 1 in the highest bit of the first word": whether record r is the first of a word of the
@@ -72,7 +76,7 @@ pub fn word_alike(area: &[u16], s: Shape, r: u32, on: bool) -> bool
     ensures { result ≡ true → Alike s area.now r on }
 {
     if r.saturating_sub(1) % 16 == 0 {
-        let w = word(area, map_word(s, r));
+        let w = word(area, map_place(s, r));
         if on { w == 65535 } else { w == 0 }
     } else {
         false
@@ -92,28 +96,28 @@ pub fn follow(area: &[u16], s: Shape, r: u32) -> Result<(), Refusal>
 }
 
 #[tactic(auto, unfolding(spec::specs::Area::go_live))]
-pub fn mark_live(jr: &mut Journal, s: Shape, r: u32)
+pub fn go_live(jr: &mut Journal, s: Shape, r: u32)
     ensures is { jr.new.area.now ≡ go_live s jr.old.area.now r }
     ensures back { Back jr.old 1 jr.new }
 {
-    let at = map_word(s, r);
+    let at = map_place(s, r);
     let w = word(jr.area(), at);
-    jr.store(Place { at }, bit_on(w, map_bit_of(r)));
+    jr.store(Place { at }, bit_on(w, map_bit(r)));
 }
 
 #[tactic(auto, unfolding(spec::specs::Area::go_unused))]
-pub fn mark_unused(jr: &mut Journal, s: Shape, r: u32)
+pub fn go_unused(jr: &mut Journal, s: Shape, r: u32)
     ensures is { jr.new.area.now ≡ go_unused s jr.old.area.now r }
     ensures back { Back jr.old 1 jr.new }
 {
-    let at = map_word(s, r);
+    let at = map_place(s, r);
     let w = word(jr.area(), at);
-    jr.store(Place { at }, bit_off(w, map_bit_of(r)));
+    jr.store(Place { at }, bit_off(w, map_bit(r)));
 }
 
 // A word, a link and a run of words of record r, from place i in it on.
 #[tactic(auto, unfolding(spec::specs::Area::peek))]
-pub fn peek(area: &[u16], s: Shape, r: u32, i: u32) -> u16
+fn peek(area: &[u16], s: Shape, r: u32, i: u32) -> u16
     ensures { result ≡ peek s area.now r i }
 {
     let at = place(s, r);
@@ -121,7 +125,7 @@ pub fn peek(area: &[u16], s: Shape, r: u32, i: u32) -> u16
 }
 
 #[tactic(auto, unfolding(spec::specs::Area::peek_link))]
-pub fn peek_link(area: &[u16], s: Shape, r: u32, i: u32) -> u32
+fn peek_link(area: &[u16], s: Shape, r: u32, i: u32) -> u32
     ensures { result ≡ peek_link s area.now r i }
 {
     let at = place(s, r);
@@ -129,7 +133,7 @@ pub fn peek_link(area: &[u16], s: Shape, r: u32, i: u32) -> u32
 }
 
 #[tactic(auto, unfolding(spec::specs::Area::peek_part))]
-pub fn peek_part(area: &[u16], s: Shape, r: u32, i: u16, n: u16) -> &[u16]
+fn peek_part(area: &[u16], s: Shape, r: u32, i: u16, n: u16) -> &[u16]
     ensures { result.now ≡ peek_part s area.now r i n }
 {
     let at = place(s, r);
@@ -137,7 +141,7 @@ pub fn peek_part(area: &[u16], s: Shape, r: u32, i: u16, n: u16) -> &[u16]
 }
 
 #[tactic(auto, unfolding(spec::specs::Area::poke))]
-pub fn poke(jr: &mut Journal, s: Shape, r: u32, i: u16, v: u16)
+fn poke(jr: &mut Journal, s: Shape, r: u32, i: u16, v: u16)
     ensures is { jr.new.area.now ≡ poke s jr.old.area.now r i v }
     ensures back { Back jr.old 1 jr.new }
 {
@@ -154,7 +158,7 @@ pub fn poke_link(jr: &mut Journal, s: Shape, r: u32, i: u16, v: u32)
 
 // A link in a neighbour, if there is one.
 #[tactic(auto, unfolding(spec::specs::Area::mend))]
-pub fn mend(jr: &mut Journal, s: Shape, r: u32, i: u16, v: u32)
+fn mend(jr: &mut Journal, s: Shape, r: u32, i: u16, v: u32)
     ensures is { jr.new.area.now ≡ mend s jr.old.area.now r i v }
     ensures back { Back jr.old 2 jr.new }
 {
@@ -193,7 +197,7 @@ pub fn entry_at(area: &[u16], s: Shape, r: u32) -> &[u16]
 }
 
 #[tactic(auto, unfolding(spec::specs::Area::put_entry_at, spec::specs::Area::poke_part))]
-pub fn put_entry(jr: &mut Journal, s: Shape, r: u32, entry: &Entry)
+pub fn put_entry_at(jr: &mut Journal, s: Shape, r: u32, entry: &Entry)
     ensures is { jr.new.area.now ≡ put_entry_at s jr.old.area.now r entry.now }
     ensures back { Back jr.old (length entry.now) jr.new }
 {
@@ -202,7 +206,7 @@ pub fn put_entry(jr: &mut Journal, s: Shape, r: u32, entry: &Entry)
 
 // The words of record `from`, from place i in it on, in record `to`: "heads and entry are copied unread".
 #[tactic(auto, unfolding(spec::specs::Area::copy_part, spec::specs::Area::poke_part, spec::specs::Area::peek_part))]
-pub fn carry_part(jr: &mut Journal, s: Shape, from: u32, to: u32, i: u16, len: u16)
+pub fn copy_part(jr: &mut Journal, s: Shape, from: u32, to: u32, i: u16, len: u16)
     requires { len ≤ 557 }
     ensures is { jr.new.area.now ≡ copy_part s jr.old.area.now from to i len }
     ensures back { Back jr.old len jr.new }
@@ -242,6 +246,22 @@ pub fn set_freed(jr: &mut Journal, s: Shape, v: u16)
 {
     let at = (s.start as usize) + 1;
     jr.store(Place { at }, v);
+}
+
+// "an unused record: zeros, except that a freed detail record's first word names the next freed one"
+#[tactic(auto, unfolding(spec::specs::Area::next_freed))]
+pub fn next_freed(area: &[u16], s: Shape, r: u32) -> u16
+    ensures { result ≡ next_freed s area.now r }
+{
+    peek(area, s, r, 0)
+}
+
+#[tactic(auto, unfolding(spec::specs::Area::set_next_freed))]
+pub fn set_next_freed(jr: &mut Journal, s: Shape, r: u32, next: u16)
+    ensures is { jr.new.area.now ≡ set_next_freed s jr.old.area.now r next }
+    ensures back { Back jr.old 1 jr.new }
+{
+    poke(jr, s, r, 0, next);
 }
 
 // Answer 18: "a link above C", a count above its set's capacity. (That what is read is within a limit is told by a clause: the limit is
@@ -286,9 +306,24 @@ pub fn read_head(area: &[u16], limit: u16, s: Shape, r: u32, at: u16) -> Result<
     ensures within { IfOk result (λ h. (h.count ≤ limit) × (h.back ≤ limit) × (h.fore ≤ limit)) }
 {
     let count = read_word(limit, peek(area, s, r, u32::from(at)))?;
-    let back = read(limit, peek_link(area, s, r, u32::from(at) + 1))?;
-    let fore = read(limit, peek_link(area, s, r, u32::from(at) + 3))?;
+    let back = read(
+        limit,
+        peek_link(area, s, r, u32::from(at) + u32::from(LAST_AT)),
+    )?;
+    let fore = read(
+        limit,
+        peek_link(area, s, r, u32::from(at) + u32::from(FIRST_AT)),
+    )?;
     Ok(Head { count, back, fore })
+}
+
+// A head's count.
+#[tactic(auto, unfolding(spec::specs::Area::set_head_count))]
+pub fn set_head_count(jr: &mut Journal, s: Shape, r: u32, at: u16, n: u16)
+    ensures is { jr.new.area.now ≡ set_head_count s jr.old.area.now r at n }
+    ensures back { Back jr.old 1 jr.new }
+{
+    poke(jr, s, r, at, n);
 }
 
 // The pair of links at a place in line r: backward, forward.
@@ -298,7 +333,7 @@ pub fn peek_links(area: &[u16], s: Shape, r: u32, at: u16) -> Links
 {
     Links {
         back: peek_link(area, s, r, u32::from(at)),
-        fore: peek_link(area, s, r, u32::from(at) + 2),
+        fore: peek_link(area, s, r, u32::from(at) + u32::from(FORE_AT)),
     }
 }
 
@@ -309,19 +344,73 @@ pub fn read_links(area: &[u16], s: Shape, r: u32, at: u16) -> Result<Links, Refu
     ensures within { IfOk result (λ l. (l.back ≤ s.cap) × (l.fore ≤ s.cap)) }
 {
     let back = read(s.cap, peek_link(area, s, r, u32::from(at)))?;
-    let fore = read(s.cap, peek_link(area, s, r, u32::from(at) + 2))?;
+    let fore = read(
+        s.cap,
+        peek_link(area, s, r, u32::from(at) + u32::from(FORE_AT)),
+    )?;
     Ok(Links { back, fore })
 }
 
+// In a line's neighbour, if there is one: its link back, and its link on.
+#[tactic(auto, unfolding(spec::specs::Area::mend_back))]
+pub fn mend_back(jr: &mut Journal, s: Shape, r: u32, at: u16, v: u32)
+    ensures is { jr.new.area.now ≡ mend_back s jr.old.area.now r at v }
+    ensures back { Back jr.old 2 jr.new }
+{
+    mend(jr, s, r, at, v);
+}
+
+#[tactic(auto, unfolding(spec::specs::Area::mend_fore))]
+pub fn mend_fore(jr: &mut Journal, s: Shape, r: u32, at: u16, v: u32)
+    requires { at ≤ 65000 }
+    ensures is { jr.new.area.now ≡ mend_fore s jr.old.area.now r at v }
+    ensures back { Back jr.old 2 jr.new }
+{
+    mend(jr, s, r, at + FORE_AT, v);
+}
+
+// "in a primary, how many live entries have this primary address"
+#[tactic(auto, unfolding(spec::specs::Area::synonym_count))]
+pub fn synonym_count(area: &[u16], s: Shape, r: u32) -> u16
+    ensures { result ≡ synonym_count s area.now r }
+{
+    peek(area, s, r, 0)
+}
+
+#[tactic(auto, unfolding(spec::specs::Area::set_synonym_count))]
+pub fn set_synonym_count(jr: &mut Journal, s: Shape, r: u32, n: u16)
+    ensures is { jr.new.area.now ≡ set_synonym_count s jr.old.area.now r n }
+    ensures back { Back jr.old 1 jr.new }
+{
+    poke(jr, s, r, 0, n);
+}
+
+// In a record of the chain, if there is one: its last or previous, and its first or next.
+#[tactic(auto, unfolding(spec::specs::Area::mend_synonym_back))]
+pub fn mend_synonym_back(jr: &mut Journal, s: Shape, r: u32, v: u32)
+    ensures is { jr.new.area.now ≡ mend_synonym_back s jr.old.area.now r v }
+    ensures back { Back jr.old 2 jr.new }
+{
+    mend(jr, s, r, SYNONYM_BACK_AT, v);
+}
+
+#[tactic(auto, unfolding(spec::specs::Area::mend_synonym_fore))]
+pub fn mend_synonym_fore(jr: &mut Journal, s: Shape, r: u32, v: u32)
+    ensures is { jr.new.area.now ≡ mend_synonym_fore s jr.old.area.now r v }
+    ensures back { Back jr.old 2 jr.new }
+{
+    mend(jr, s, r, SYNONYM_FORE_AT, v);
+}
+
 // The five synonym words of record r, read whole.
-#[tactic(auto, unfolding(spec::specs::Area::synonyms, spec::specs::Area::synonym_count), using(spec::specs::Follow::goes, spec::specs::Follow::stops))]
+#[tactic(auto, unfolding(spec::specs::Area::synonyms), using(spec::specs::Follow::goes, spec::specs::Follow::stops))]
 pub fn synonyms(area: &[u16], s: Shape, r: u32) -> Result<Head, Refusal>
     ensures is { result ≡ synonyms s area.now r }
     ensures within { IfOk result (λ y. (y.count ≤ s.cap) × (y.back ≤ s.cap) × (y.fore ≤ s.cap)) }
 {
-    let count = read_word(s.cap, peek(area, s, r, 0))?;
-    let back = read_synonym(s.cap, r, peek_link(area, s, r, 1))?;
-    let fore = read_synonym(s.cap, r, peek_link(area, s, r, 3))?;
+    let count = read_word(s.cap, synonym_count(area, s, r))?;
+    let back = read_synonym(s.cap, r, peek_link(area, s, r, u32::from(SYNONYM_BACK_AT)))?;
+    let fore = read_synonym(s.cap, r, peek_link(area, s, r, u32::from(SYNONYM_FORE_AT)))?;
     Ok(Head { count, back, fore })
 }
 
@@ -331,6 +420,6 @@ pub fn set_synonyms(jr: &mut Journal, s: Shape, r: u32, y: Head)
     ensures back { Back jr.old 5 jr.new }
 {
     poke(jr, s, r, 0, y.count);
-    poke_link(jr, s, r, 1, y.back);
-    poke_link(jr, s, r, 3, y.fore);
+    poke_link(jr, s, r, SYNONYM_BACK_AT, y.back);
+    poke_link(jr, s, r, SYNONYM_FORE_AT, y.fore);
 }

@@ -23,6 +23,7 @@ pub enum Verb {
     Delete,
 }
 
+// (Looked through as `console` does its commands: three lines, over a table of another type.)
 const NAMES: [(&str, Verb); 14] = [
     ("root", Verb::Root),
     ("root+", Verb::MoreRoot),

@@ -1,5 +1,5 @@
 // The changing calls, put, update and delete, up to their outcome. Where the outcome is a refusal, the area is as it was. (Each begins
-// by the same two lines; one function that takes the rest as closures would be longer than the three. What they take is what the
+// by the same three lines; one function that takes the rest as closures would be longer than the three. What they take is what the
 // calls take, and a set's number is promised.)
 #![tactic(auto)]
 

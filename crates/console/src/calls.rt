@@ -123,6 +123,7 @@ impl Desk {
         let status = Status(found.status).accepted()?;
         write!(writer, "{}", Lines(status.number()))?;
         let mut cursors = found.session;
+        // Counted, since a loop that could go on for ever is refused; a chain's end ends it.
         for _ in 0..4096 {
             match self.draw_line(writer, cursors, set, mode)? {
                 Some(next) => cursors = next,

@@ -31,6 +31,7 @@ enum Command {
     Quit,
 }
 
+// (Looked through as `cases` does its verbs: three lines, over a table of another type.)
 const NAMES: [(&str, Command); 17] = [
     ("help", Command::Help),
     ("sets", Command::Sets),

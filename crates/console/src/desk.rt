@@ -64,6 +64,9 @@ pub const ROOM: usize = 131072;
 // The bytes of a part of a file.
 pub const PART: usize = 4096;
 
+// The longest name of a file that a base is saved to; beside it a new one, with a dot and six digits, has to have room.
+pub const NAME: usize = 4000;
+
 // Rooms for what a command reads and writes. Each has all its memory from the start, so that no command wants more.
 #[derive(Drop)]
 pub struct Rooms {
@@ -85,7 +88,7 @@ impl Rooms {
             text: vec![in alloc; 0; 65536]?,
             part: Vec::with_capacity(alloc, PART)?,
             words: Vec::with_capacity(alloc, ROOM)?,
-            path: String::with_capacity(alloc, 4096)?,
+            path: String::with_capacity(alloc, NAME + 96)?,
         })
     }
 }

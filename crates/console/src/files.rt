@@ -2,7 +2,7 @@
 // byte first. What is read is looked at whole, in rooms of its own, before anything on the desk changes.
 ghost use Rattle.std.specs.Prelude.{◌≤◌, length};
 
-use crate::desk::{Desk, PART, ROOM, Rooms, Status};
+use crate::desk::{Desk, NAME, PART, ROOM, Rooms, Status};
 use crate::failed::{Failed, Fault};
 use crate::rest::word_of;
 use lines::Words;
@@ -94,12 +94,12 @@ fn create_beside<R: Files>(rt: &R, name: &str, path: &mut String) -> Option<R::F
 }
 
 // The base into a new file, which takes the name once all is written; a file that had the name stays until then.
-fn save_by<R: Files>(rt: &R, name: &[u8], desk: &mut Desk) -> Option<()> {
-    if 4000 < name.len() {
-        return None;
+fn save_by<R: Files>(rt: &R, name: &[u8], desk: &mut Desk) -> Result<(), Fault> {
+    if NAME < name.len() {
+        return Err(Fault::NotWritten);
     }
-    let name = str::from_utf8(name).ok()?;
-    let file = create_beside(rt, name, &mut desk.rooms.path)?;
+    let name = str::from_utf8(name).map_err(|_| Fault::NotWritten)?;
+    let file = create_beside(rt, name, &mut desk.rooms.path).ok_or(Fault::NotWritten)?;
     let mut saved = write_base(file, desk);
     let path = desk.rooms.path.as_str();
     if saved.is_ok() {
@@ -108,7 +108,7 @@ fn save_by<R: Files>(rt: &R, name: &[u8], desk: &mut Desk) -> Option<()> {
     if saved.is_err() {
         let _ = fs::remove_file(rt, path);
     }
-    saved.ok()
+    saved.map_err(|_| Fault::NotWritten)
 }
 
 // The words of a file, if they are whole and there is room for them.
@@ -180,7 +180,7 @@ impl Desk {
         writer: &mut W,
         name: &'a [u8],
     ) -> Result<(), Failed<'a>> {
-        save_by(rt, name, self).ok_or(Failed::File(name, Fault::NotWritten))?;
+        save_by(rt, name, self).map_err(|fault| Failed::File(name, fault))?;
         writeln!(writer, "saved, {} words of area", self.area.len())?;
         Ok(())
     }

@@ -18,7 +18,7 @@ use master_calls::{changed, keeps, write_over};
 use named::current_record;
 use session::Good;
 use sound::Entry;
-use spec::{Cursor, Links, Refusal, Shape};
+use spec::{Cursor, LINE_WORDS, Links, Refusal, Shape};
 
 // A line's links on a path, as they stand (a get reads them whole); none on path 0. (The path is that of a cursor that fits: see
 // `named`.)
@@ -30,7 +30,7 @@ fn saved_links(area: &[u16], d: Shape, path: u32, r: u32) -> Links
     if path == 0 {
         Links::default()
     } else {
-        peek_links(area, d, r, (4 * (path - 1)) as u16)
+        peek_links(area, d, r, LINE_WORDS * (path as u16 - 1))
     }
 }
 

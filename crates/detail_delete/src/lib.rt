@@ -10,7 +10,7 @@ ghost use Rattle.journal.specs.Journal.{Back};
 ghost use Rattle.master_put.specs.Answers.{area_out};
 ghost use Rattle.detail_delete.specs.Answers.{drop_room, path_room, path_at};
 
-use area::{blank, freed, mark_unused, poke, read_word, set_freed, value_at};
+use area::{blank, freed, go_unused, read_word, set_freed, set_next_freed, value_at};
 use find::find_key;
 use journal::Journal;
 use layout::{DetailSet, SetPath};
@@ -71,16 +71,16 @@ fn delete_paths(d: &DetailSet, jr: &mut Journal, r: u32) -> Result<(), Refusal>
 }
 
 // "the record becomes the first freed": nothing refuses any more.
-#[tactic(auto, unfolding(spec::specs::Detail::free_record, spec::specs::Area::set_next_freed))]
+#[tactic(auto, unfolding(spec::specs::Detail::free_record))]
 fn free_record(jr: &mut Journal, s: Shape, r: u16, next: u16)
     ensures lent { jr.new.area.ghost_name ≡ jr.old.area.ghost_name }
     ensures is { jr.new.area.now ≡ free_record s jr.old.area.now r next }
 {
     let at = r as u32;
     blank(jr, s, at, 0, s.width);
-    poke(jr, s, at, 0, next);
+    set_next_freed(jr, s, at, next);
     set_freed(jr, s, r);
-    mark_unused(jr, s, at);
+    go_unused(jr, s, at);
 }
 
 // Line r goes; where it can't, the journal leads back.
@@ -97,7 +97,7 @@ fn unline(d: &DetailSet, jr: &mut Journal, r: u16) -> Result<(), Refusal>
 }
 
 // Line r of the set is deleted, or the area is as it was. A path puts down at most 173 words; a room for two paths is cleared in
-// half the time. (A put chooses its room alike: a function that lends the room to a closure would be longer than both.)
+// half the time. (A put chooses its room alike: see there.)
 pub fn delete_line(d: &DetailSet, area: &mut [u16], r: u16) -> Result<(), Refusal>
     ensures is { area_out result area.new ≡ delete_line (detail_of d.now.root.now.words.now d.now.number) area.old r }
     ensures kept { IfErr result (λ _. area.new ≡ area.old) }

@@ -10,7 +10,7 @@ ghost use Rattle.journal.specs.Journal.{Back};
 ghost use Rattle.placing.specs.Answers.{placed_out};
 ghost use Rattle.detail_put.specs.Answers.{lined_out, line_out, path_at};
 
-use area::{mark_live, put_entry, set_freed, set_mark};
+use area::{go_live, put_entry_at, set_freed, set_mark};
 use journal::Journal;
 use layout::{DetailSet, SetPath};
 use placing::{put_path, take_record};
@@ -40,7 +40,7 @@ fn put_at(path: &SetPath, jr: &mut Journal, r: u32, entry: &Entry) -> Result<u16
     )
 }
 
-// "Then paths 1 upward": the lines passed on each.
+// "Then paths 1 upward": the lines passed on each. (Counted, here and in a delete and an update: the definitions count by a path's number.)
 #[tactic(auto, using(journal::specs::BackLaws::back_none, turns::specs::Turns::back_next, crate::proofs::Laws::paths_start, crate::proofs::Laws::paths_next, crate::proofs::Laws::paths_end))]
 fn put_paths(d: &DetailSet, jr: &mut Journal, r: u32, entry: &Entry) -> Result<[u16; 4], Refusal>
     ensures is { lined_out result jr.new.area.now ≡ put_paths (detail_of d.now.root.now.words.now d.now.number) entry.now r (path_count d.now.root.now.words.now d.now.number) 1 (record { area = jr.old.area.now; passed = none_passed }) }
@@ -61,17 +61,17 @@ fn settle(jr: &mut Journal, s: Shape, t: Taken, entry: &Entry)
 {
     set_mark(jr, s, t.mark);
     set_freed(jr, s, t.freed);
-    put_entry(jr, s, t.at, entry);
-    mark_live(jr, s, t.at);
+    put_entry_at(jr, s, t.at, entry);
+    go_live(jr, s, t.at);
 }
 
 // A line is put into the set, or the area is as it was. A path puts down at most 173 words; a room for two paths is cleared in
-// half the time. (A delete chooses its room alike: a function that lends the room to a closure would be longer than both.)
+// half the time. (A delete chooses its room alike, and both say of it that it is enough for the paths: what they do by the journal is told
+// by contracts of their own, which a closure would have to name.)
 #[tactic(auto, unfolding(spec::specs::Detail::put_line, spec::specs::Layout::detail_of), using(spec::specs::Follow::goes, spec::specs::Follow::stops))]
 pub fn put_line(d: &DetailSet, area: &mut [u16], entry: &Entry) -> Result<Line, Refusal>
     ensures is { line_out result area.new ≡ put_line (detail_of d.now.root.now.words.now d.now.number) area.old entry.now }
     ensures kept { IfErr result (λ _. area.new ≡ area.old) }
-    ensures low { IfOk result (λ l. 1 ≤ l.at) }
 {
     let t = take_record(area, d.shape)?;
     if d.path_count() <= 2 {
@@ -89,12 +89,10 @@ fn put_within<const N: usize>(
     t: Taken,
     entry: &Entry,
 ) -> Result<Line, Refusal>
-    requires taken { 1 ≤ t.at }
     requires enough { 173 * path_count d.now.root.now.words.now d.now.number ≤ N }
     requires few { N ≤ 692 }
     ensures is { line_out result area.new ≡ put_taken (detail_of d.now.root.now.words.now d.now.number) t area.old entry.now }
     ensures kept { IfErr result (λ _. area.new ≡ area.old) }
-    ensures low { IfOk result (λ l. 1 ≤ l.at) }
 {
     put_taken(d, area, &mut [0; N], t, entry)
 }
@@ -108,10 +106,9 @@ fn put_taken(
     t: Taken,
     entry: &Entry,
 ) -> Result<Line, Refusal>
-    requires { (1 ≤ t.at) × (173 * path_count d.now.root.now.words.now d.now.number ≤ length room.old) }
+    requires { 173 * path_count d.now.root.now.words.now d.now.number ≤ length room.old }
     ensures is { line_out result area.new ≡ put_taken (detail_of d.now.root.now.words.now d.now.number) t area.old entry.now }
     ensures kept { IfErr result (λ _. area.new ≡ area.old) }
-    ensures low { IfOk result (λ l. 1 ≤ l.at) }
 {
     let mut jr = Journal::over(area, room);
     match put_paths(d, &mut jr, t.at, entry) {

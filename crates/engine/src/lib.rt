@@ -22,7 +22,7 @@ pub fn make(root: &[u16], area: &mut [u16]) -> [u16; 10]
     let mut plan = Plan::ROOM;
     match known(root, area.len(), &mut plan) {
         Ok(_) => {
-            // "A new base is all zeros."
+            // "A new base is all zeros." (`lay_zeros`, and no `fill`: a wrong program changes its place.)
             lay_zeros(area, 0, area.len());
             [0; 10]
         }

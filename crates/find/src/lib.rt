@@ -1,6 +1,5 @@
 // "Master steps", the readings: the primary address, find along the synonym chain, the search for an unused record, and what a
-// put and a delete read before they write. (That a record's number is above 0 is promised where it is told, and so stands in clauses
-// here and above.)
+// put and a delete read before they write.
 #![tactic(auto)]
 
 ghost use Rattle.std.specs.Prelude.{◌≡◌, true, cond, IfOk, ◌+◌, ◌-◌, ◌*◌, ◌%◌, ◌≤◌, ◌<◌, ◌^◌, length};
@@ -10,7 +9,7 @@ ghost use Rattle.find.specs.Answers.{Full};
 
 use area::{follow, live, read_head, synonyms, value_at, word_alike};
 use sound::SoundMaster;
-use spec::{Head, Lowered, Master, Refusal, Shape};
+use spec::{HEAD_WORDS, Head, Lowered, Master, Refusal, SYNONYM_WORDS, Shape};
 use words::same;
 
 // "(257v + w) mod 2^31", with 65536 for 257 where the key is a number.
@@ -68,8 +67,7 @@ fn has_key(area: &[u16], m: Master, r: u32, key: &[u16]) -> bool
 // "a secondary's primary is found from its key; that address counts as a link"
 #[tactic(auto, unfolding(spec::specs::Master::primary_of), using(spec::specs::Follow::goes, spec::specs::Follow::stops))]
 fn primary_of(area: &[u16], m: SoundMaster, r: u32) -> Result<u32, Refusal>
-    ensures is { result ≡ primary_of m area.now r }
-    ensures found { IfOk result (λ p. 1 ≤ p) }
+    ensures { result ≡ primary_of m area.now r }
 {
     let p = address(m, key_at(area, m.plain, r));
     if p == r {
@@ -133,7 +131,8 @@ fn next_up(cap: u16, r: u32) -> u32
     if r < (cap as u32) { r + 1 } else { 1 }
 }
 
-// Whether the n records from r on begin with a word of the map, all of them within the capacity and live.
+// Whether the n records from r on begin with a word of the map, all of them within the capacity and live. (A read asks the same of
+// unused ones: it counts no records down, and stops at the capacity where a put wraps.)
 fn word_full(area: &[u16], s: Shape, n: u16, r: u32) -> bool
     ensures { result ≡ true → Full s area.now n r }
 {
@@ -199,7 +198,7 @@ pub fn no_lines(area: &[u16], s: Shape, r: u32, heads: &[u16]) -> Result<bool, R
     ensures { result ≡ no_lines s area.now r heads.now 0 }
 {
     for (j, cap) in heads.iter().enumerate() {
-        if read_head(area, *cap, s, r, (5 + 5 * j) as u16)?.count != 0 {
+        if read_head(area, *cap, s, r, SYNONYM_WORDS + HEAD_WORDS * (j as u16))?.count != 0 {
             return Ok(false);
         }
     }
@@ -209,8 +208,7 @@ pub fn no_lines(area: &[u16], s: Shape, r: u32, heads: &[u16]) -> Result<bool, R
 // The primary of the secondary r, found from its key and read whole; its count is lowered and so is not 0.
 #[tactic(auto, unfolding(spec::specs::Master::lowered), using(spec::specs::Follow::goes, spec::specs::Follow::stops))]
 pub fn lowered(area: &[u16], m: SoundMaster, r: u32) -> Result<Lowered, Refusal>
-    ensures is { result ≡ lowered m area.now r }
-    ensures found { IfOk result (λ q. 1 ≤ q.at) }
+    ensures { result ≡ lowered m area.now r }
 {
     let at = primary_of(area, m, r)?;
     let z = synonyms(area, m.plain.shape, at)?;

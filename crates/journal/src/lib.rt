@@ -11,7 +11,9 @@ use words::{high, lay, lay_zeros, low, part, put_word, word};
 
 // The area that a call writes as if on a copy, and what the call overwrote, in a lent room: for each word its place and what stood
 // there, as one number, and how many of them there are. A journal that has no room left takes no more, and then can't be rewound (a
-// call that refuses before it writes lends an empty room). The room is lent, and no ArrayVec, so that it is as large as the paths need.
+// call that refuses before it writes lends an empty room). The room is lent, and no ArrayVec: its size would
+// stand in the type of every step. (An entry is one number of 64 bits, as the definitions have it: a struct of place and word would be
+// twice as long, and the room is cleared for each line.)
 #[derive(Drop)]
 pub struct Journal<'a> {
     area: &'a mut [u16],
@@ -34,7 +36,8 @@ impl<'a> Journal<'a> {
         Journal::resumed(area, room, 0)
     }
 
-    // A journal that has so many entries already; more than its room holds are a full room.
+    // A journal that has so many entries already; more than its room holds are a full room. (This and `count` are for a caller that has
+    // area, room and count by themselves.)
     pub fn resumed(area: &'a mut [u16], room: &'a mut [u64], count: usize) -> Journal<'a>
         ensures lent { result.area.ghost_name ≡ area.entry.ghost_name }
         ensures held { result.room.ghost_name ≡ room.entry.ghost_name }
@@ -83,7 +86,7 @@ impl<'a> Journal<'a> {
         put_word(self.area, i, v);
     }
 
-    // The same, at a sound place.
+    // The same, at a sound place. (Two, since the other's bound is promised.)
     pub fn store(&mut self, p: Place, v: u16)
         ensures is { self.new.area.now ≡ set self.old.area.now p v }
         ensures back { Back self.old 1 self.new }
@@ -115,7 +118,7 @@ impl<'a> Journal<'a> {
     }
 
     // Words are laid over those from a place on.
-    fn store_words(&mut self, at: usize, vs: &[u16])
+    pub fn store_words(&mut self, at: usize, vs: &[u16])
         requires { at + length vs.now < 2 ^ 48 }
         ensures is { self.new.area.now ≡ sets self.old.area.now at vs.now }
         ensures back { Back self.old (length vs.now) self.new }

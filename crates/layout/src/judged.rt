@@ -3,7 +3,7 @@
 
 ghost use Rattle.std.specs.Prelude.{◌≡◌, true, ◌≤◌, IfOk, IfSome, is_some};
 ghost use Rattle.spec.specs.Root.{items, sets, item_type, kind, leading, root_good};
-ghost use Rattle.spec.specs.Layout.{front_words, size_of};
+ghost use Rattle.spec.specs.Layout.{front_words, map_words, size_of};
 ghost use Rattle.root.specs.Codes.{kind_code, type_code};
 ghost use Rattle.root.specs.Plan.{Starts};
 ghost use Rattle.layout.specs.Views.{Counted};
@@ -12,7 +12,7 @@ ghost use Rattle.std.proofs.Props.{props};
 
 use crate::sets::Root;
 use root::{ItemType, Kind, Plan, Stated};
-use spec::Refusal;
+use spec::{HEAD_WORDS, LEAD_WORDS, LINE_WORDS, Refusal, SYNONYM_WORDS};
 
 // A root that keeps its rules, with what its judging counted.
 #[derive(Clone, Copy)]
@@ -29,6 +29,14 @@ pub struct RuledSet<'a> {
     pub number: u16,
     pub ghost good: { root_good root.words.now ≡ true },
     pub ghost there: { (1 ≤ number) × (number ≤ sets root.words.now) },
+}
+
+// "Map: one bit per record": its words.
+pub fn map_words(cap: u32) -> u32
+    requires { cap ≤ 65535 }
+    ensures { result ≡ map_words cap }
+{
+    (cap + 15) / 16
 }
 
 impl<'a> RuledSet<'a> {
@@ -60,8 +68,8 @@ impl<'a> RuledSet<'a> {
         ensures { result ≡ front_words self.now.root.words.now self.now.number }
     {
         match self.kind() {
-            Kind::Detail => 4 * root::path_count(self.root, self.number),
-            _ => 5 + 5 * lead,
+            Kind::Detail => LINE_WORDS * root::path_count(self.root, self.number),
+            _ => SYNONYM_WORDS + HEAD_WORDS * lead,
         }
     }
 }
@@ -79,7 +87,7 @@ impl<'a> Judged<'a> {
             number: s,
         };
         let width = set.front_words(self.plan.leads[k]) + self.plan.entries[k];
-        2 + (cap + 15) / 16 + cap * width as u32
+        u32::from(LEAD_WORDS) + map_words(cap) + cap * width as u32
     }
 
     // "Sets follow one another.": the start of each.

@@ -8,13 +8,14 @@ ghost use Rattle.root.specs.Codes.{kind_code};
 ghost use Rattle.root.specs.Plan.{Planned};
 ghost use Rattle.layout.specs.Views.{Shaped, Mastered, Sorted, Pathed};
 ghost use Rattle.std.proofs.Props.{props};
-ghost use Rattle.arrayvec.specs.ArrayVec.{array_vec_len};
 
-use crate::judged::RuledSet;
+use crate::judged::{RuledSet, map_words};
 use arrayvec::ArrayVec;
 use root::{ItemType, Kind, Plan, Stated};
 use sound::{SoundDetail, SoundMaster, SoundPath};
-use spec::{Field, Master, Path, Shape};
+use spec::{
+    Field, HEAD_WORDS, LEAD_WORDS, LINE_WORDS, MAX_SET_ITEMS, Master, Path, SYNONYM_WORDS, Shape,
+};
 
 // A root that keeps its rules, with what is counted from it once. (`Stated { words: .. }` stands where it is read: with a method that
 // gives it the proofs don't close.)
@@ -25,7 +26,8 @@ pub struct Root<'a> {
     pub ghost planned: { Planned words.now plan.now } by { Prim.hlevel props },
 }
 
-// A set of a good root, by its number.
+// A set of a good root, by its number. (Root, number and `there` stand in the next two as well: with a set within them every clause that
+// names the root would go one step further. `RuledSet` is made where a set of a root is asked for its words: it stands below the plan.)
 #[derive(Clone, Copy)]
 pub struct Set<'a> {
     pub root: &'a Root<'a>,
@@ -89,8 +91,7 @@ impl<'a> Root<'a> {
     // The capacities that the heads of master m are held against, "by detail set number, then path number".
     #[tactic(auto, unfolding(spec::specs::Layout::heads_of), using(crate::proofs::Good::good_root, crate::proofs::Heads::headed))]
     pub fn heads_of(&self, m: u16) -> ArrayVec<u16, 8>
-        ensures caps { result.items ≡ heads_of self.now.words.now m }
-        ensures bound { array_vec_len result ≤ 8 }
+        ensures { result.items ≡ heads_of self.now.words.now m }
     {
         let root = Stated { words: self.words };
         let mut caps = ArrayVec::new();
@@ -144,9 +145,10 @@ impl<'a> Set<'a> {
         let front = ruled.front_words(self.lead());
         let entry = self.root.plan.entries[self.number as usize - 1];
         Shape {
+            set: self.number,
             start,
-            map: start + 2,
-            records: start + 2 + (cap as u32 + 15) / 16,
+            map: start + u32::from(LEAD_WORDS),
+            records: start + u32::from(LEAD_WORDS) + map_words(cap as u32),
             cap,
             width: front + entry,
             front,
@@ -166,7 +168,7 @@ impl<'a> Set<'a> {
             words: self.root.words,
         };
         let mut at = 0;
-        for j in 1..=16 {
+        for j in 1..=MAX_SET_ITEMS {
             let x = root::set_item(root, self.number, j);
             let size = root::item_length(root, x);
             if x == item {
@@ -238,8 +240,7 @@ impl<'a> MasterSet<'a> {
 
     // The capacities that its heads are held against.
     pub fn heads(&self) -> ArrayVec<u16, 8>
-        ensures caps { result.items ≡ heads_of self.now.root.now.words.now self.now.number }
-        ensures bound { array_vec_len result ≤ 8 }
+        ensures { result.items ≡ heads_of self.now.root.now.words.now self.now.number }
     {
         self.root.heads_of(self.number)
     }
@@ -331,8 +332,7 @@ impl<'a> SetPath<'a> {
 
     // The capacities that the heads of its master are held against.
     pub fn heads(&self) -> ArrayVec<u16, 8>
-        ensures caps { result.items ≡ heads_of self.now.set.now.root.now.words.now (path_master self.now.set.now.root.now.words.now self.now.set.now.number self.now.number) }
-        ensures bound { array_vec_len result ≤ 8 }
+        ensures { result.items ≡ heads_of self.now.set.now.root.now.words.now (path_master self.now.set.now.root.now.words.now self.now.set.now.number self.now.number) }
     {
         self.set.root.heads_of(self.master_number())
     }
@@ -342,9 +342,10 @@ impl<'a> SetPath<'a> {
     fn head(&self) -> u16
         ensures { result ≡ head_of self.now.set.now.root.now.words.now self.now.set.now.number self.now.number }
     {
-        5 + 5
-            * self.set.root.plan.slots[4 * (self.set.number as usize - 1)
-                + (self.number as usize - 1)]
+        SYNONYM_WORDS
+            + HEAD_WORDS
+                * self.set.root.plan.slots[4 * (self.set.number as usize - 1)
+                    + (self.number as usize - 1)]
     }
 
     // Where its search item stands in the entry.
@@ -385,7 +386,7 @@ impl<'a> SetPath<'a> {
             plain: Path {
                 to: self.master(),
                 head: self.head(),
-                links: 4 * (self.number - 1),
+                links: LINE_WORDS * (self.number - 1),
                 search: self.search(),
                 sorted: sort.is_some(),
                 sort: sort.unwrap_or(Field { at: 0, size: 0 }),

@@ -7,22 +7,22 @@ ghost use Rattle.spec.specs.Detail.{unlink_neighbours, old_ends, link_out, drop_
 ghost use Rattle.journal.specs.Journal.{Back};
 ghost use Rattle.master_put.specs.Answers.{area_out};
 
-use area::{follow, mend, poke, read_head, read_links};
+use area::{follow, mend_back, mend_fore, read_head, read_links, set_head_count};
 use find::no_lines;
 use journal::Journal;
 use master_delete::remove_entry;
 use placing::set_end;
 use sound::{PlacedPath, SoundMaster};
-use spec::{Head, Hung, Links, Path, Refusal, Shape};
+use spec::{FIRST_AT, Head, Hung, LAST_AT, Links, Path, Refusal, Shape};
 
 // Behind and ahead of the line that goes are joined.
-#[tactic(auto, unfolding(spec::specs::Detail::unlink_neighbours, spec::specs::Area::mend_back, spec::specs::Area::mend_fore), using(journal::specs::BackLaws::back_two))]
+#[tactic(auto, unfolding(spec::specs::Detail::unlink_neighbours), using(journal::specs::BackLaws::back_two))]
 fn neighbours(jr: &mut Journal, d: Shape, p: PlacedPath, l: Links)
     ensures is { jr.new.area.now ≡ unlink_neighbours d p jr.old.area.now l }
     ensures back { Back jr.old 4 jr.new }
 {
-    mend(jr, d, l.back, p.plain.links + 2, l.fore);
-    mend(jr, d, l.fore, p.plain.links, l.back);
+    mend_fore(jr, d, l.back, p.plain.links, l.fore);
+    mend_back(jr, d, l.fore, p.plain.links, l.back);
 }
 
 // The head's last and first, where the line that goes was at that end.
@@ -31,18 +31,32 @@ fn old_ends(jr: &mut Journal, p: PlacedPath, k: u32, l: Links)
     ensures is { jr.new.area.now ≡ old_ends p jr.old.area.now k l }
     ensures back { Back jr.old 4 jr.new }
 {
-    set_end(jr, p.plain.to.shape, k, p.plain.head + 1, l.fore, l.back);
-    set_end(jr, p.plain.to.shape, k, p.plain.head + 3, l.back, l.fore);
+    set_end(
+        jr,
+        p.plain.to.shape,
+        k,
+        p.plain.head + LAST_AT,
+        l.fore,
+        l.back,
+    );
+    set_end(
+        jr,
+        p.plain.to.shape,
+        k,
+        p.plain.head + FIRST_AT,
+        l.back,
+        l.fore,
+    );
 }
 
 // Behind, ahead, head.
-#[tactic(auto, unfolding(spec::specs::Detail::link_out, spec::specs::Area::set_head_count), using(journal::specs::BackLaws::back_three))]
+#[tactic(auto, unfolding(spec::specs::Detail::link_out), using(journal::specs::BackLaws::back_three))]
 pub fn link_out(jr: &mut Journal, d: Shape, p: PlacedPath, k: u32, h: Head, l: Links)
     ensures is { jr.new.area.now ≡ link_out d p jr.old.area.now k h l }
     ensures back { Back jr.old 9 jr.new }
 {
     neighbours(jr, d, p, l);
-    poke(
+    set_head_count(
         jr,
         p.plain.to.shape,
         k,

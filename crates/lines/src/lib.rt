@@ -94,7 +94,7 @@ impl<'a> Iterator for Words<'a> {
     }
 }
 
-// A word as a decimal number up to 4294967295; none where it is no such number.
+// A word as a decimal number up to 4294967295; none where it is no such number. (std's `parse` takes text alone, and a plus before it.)
 pub fn number_of(word: &[u8]) -> Option<u32>
     ensures { result ≡ number word.now }
 {

@@ -1,6 +1,7 @@
 // The C interface, which fixes each function's arguments: cursors and status, one beside the other, as slices. A slice passes as
 // a pointer and a count; cursors are 64 numbers, four a set; status has ten words. A function returns 0 if the call was worked
-// (the status tells how it went) and 1 if cursors, status or passed do not have their lengths: then nothing is written.
+// (the status tells how it went) and 1 if cursors, status or passed do not have their lengths: then nothing is written. (Five calls have
+// the same steps, test, session, call, words back: a function over the call would have its contract name what a closure answered.)
 #![tactic(auto)]
 
 ghost use Rattle.std.specs.Prelude.{◌≡◌, length};

@@ -11,7 +11,7 @@ ghost use Rattle.session.specs.Answers.{done_out};
 ghost use Rattle.master_put.specs.Answers.{area_out, Unwritten};
 ghost use Rattle.master_calls.specs.Answers.{line_out, told, rewritten};
 
-use area::{peek, put_entry as write_entry, value_at};
+use area::{put_entry_at, synonym_count, value_at};
 use find::{find_key, no_lines};
 use journal::Journal;
 use layout::MasterSet;
@@ -24,7 +24,7 @@ use spec::{Cursor, Field, Links, Master, Refusal, Shape};
 use words::{part, same};
 
 // What is told of the entry in record r, which is new.
-#[tactic(auto, unfolding(crate::specs::Answers::told, spec::specs::Area::synonym_count))]
+#[tactic(auto, unfolding(crate::specs::Answers::told))]
 fn tell(area: &[u16], m: Master, c: Cursor, r: u32) -> Good
     ensures { result ≡ told m area.now c r }
 {
@@ -32,7 +32,7 @@ fn tell(area: &[u16], m: Master, c: Cursor, r: u32) -> Good
     Good {
         size: m.shape.entry,
         at: r,
-        number: peek(area, m.shape, r, 0) as u32,
+        number: synonym_count(area, m.shape, r) as u32,
         links,
         cursor: c.at_record(r, links),
         passed: [0; 4],
@@ -92,7 +92,7 @@ pub fn keeps(area: &[u16], s: Shape, r: u32, entry: &[u16], f: Field) -> bool
 pub fn write_over(area: &mut [u16], s: Shape, r: u32, entry: &Entry)
     ensures { area.new ≡ put_entry_at s area.old r entry.now }
 {
-    write_entry(&mut Journal::over(area, &mut []), s, r, entry);
+    put_entry_at(&mut Journal::over(area, &mut []), s, r, entry);
 }
 
 // "After update and delete, words 3 to 10 are 0 (H)"; "Update and delete leave the cursor"
@@ -143,7 +143,7 @@ fn remove(m: &MasterSet, area: &mut [u16], r: u32) -> Result<(), Refusal>
     ensures kept { Unwritten result area.old area.new }
 {
     let heads = m.heads();
-    if !no_lines(area, m.master.shape, r, &heads)? {
+    if !no_lines(area, m.master.shape, r, heads.as_slice())? {
         return Err(Refusal::HasLines);
     }
     remove_entry(&mut Journal::over(area, &mut []), m.sound(), r)

@@ -8,11 +8,14 @@ ghost use Rattle.spec.specs.Master.{erase, new_last, close_up, cut, unlink, prom
 ghost use Rattle.journal.specs.Journal.{Back};
 ghost use Rattle.master_put.specs.Answers.{area_out, Unwritten};
 
-use area::{blank, carry_part, follow, mark_unused, mend, poke, set_synonyms, synonyms};
+use area::{
+    blank, copy_part, follow, go_unused, mend_synonym_back, mend_synonym_fore, set_synonym_count,
+    set_synonyms, synonyms,
+};
 use find::lowered;
 use journal::Journal;
 use sound::SoundMaster;
-use spec::{Head, Lowered, Master, Refusal, Shape};
+use spec::{Head, Lowered, Master, Refusal, SYNONYM_WORDS, Shape};
 
 // "Unused record: zeros"
 #[tactic(auto, unfolding(spec::specs::Master::erase), using(journal::specs::BackLaws::back_two))]
@@ -21,7 +24,7 @@ fn erase(jr: &mut Journal, m: SoundMaster, r: u32)
     ensures back { Back jr.old (m.shape.width + 1) jr.new }
 {
     blank(jr, m.plain.shape, r, 0, m.plain.shape.width);
-    mark_unused(jr, m.plain.shape, r);
+    go_unused(jr, m.plain.shape, r);
 }
 
 // A last, or 0 where it is the record that goes.
@@ -32,38 +35,38 @@ fn unless(last: u32, gone: u32) -> u32
 }
 
 // The primary's last, where the one that goes was it.
-#[tactic(auto, unfolding(spec::specs::Master::new_last, spec::specs::Area::mend_synonym_back), using(journal::specs::BackLaws::back_none))]
+#[tactic(auto, unfolding(spec::specs::Master::new_last), using(journal::specs::BackLaws::back_none))]
 fn new_last(jr: &mut Journal, m: Master, p: u32, y: Head)
     ensures is { jr.new.area.now ≡ new_last m jr.old.area.now p y }
     ensures back { Back jr.old 2 jr.new }
 {
     if y.fore == 0 {
-        mend(jr, m.shape, p, 1, unless(y.back, p));
+        mend_synonym_back(jr, m.shape, p, unless(y.back, p));
     }
 }
 
 // Behind and ahead of the one that goes are joined.
-#[tactic(auto, unfolding(spec::specs::Master::close_up, spec::specs::Area::mend_synonym_back, spec::specs::Area::mend_synonym_fore), using(journal::specs::BackLaws::back_two))]
+#[tactic(auto, unfolding(spec::specs::Master::close_up), using(journal::specs::BackLaws::back_two))]
 fn close_up(jr: &mut Journal, s: Shape, y: Head)
     ensures is { jr.new.area.now ≡ close_up s jr.old.area.now y }
     ensures back { Back jr.old 4 jr.new }
 {
-    mend(jr, s, y.back, 3, y.fore);
-    mend(jr, s, y.fore, 1, y.back);
+    mend_synonym_fore(jr, s, y.back, y.fore);
+    mend_synonym_back(jr, s, y.fore, y.back);
 }
 
 // The primary q of the one that goes: its count is lowered, and its last mended.
-#[tactic(auto, unfolding(spec::specs::Area::set_synonym_count), using(journal::specs::BackLaws::back_two))]
+#[tactic(auto, using(journal::specs::BackLaws::back_two))]
 fn lower(jr: &mut Journal, m: Master, y: Head, q: Lowered)
     ensures is { jr.new.area.now ≡ new_last m (set_synonym_count m.shape jr.old.area.now q.at q.count) q.at y }
     ensures back { Back jr.old 3 jr.new }
 {
-    poke(jr, m.shape, q.at, 0, q.count);
+    set_synonym_count(jr, m.shape, q.at, q.count);
     new_last(jr, m, q.at, y);
 }
 
 // What goes with the secondary r is written: its neighbours, its primary q, its own record.
-#[tactic(auto, unfolding(spec::specs::Master::cut, spec::specs::Area::set_synonym_count), using(journal::specs::BackLaws::back_three))]
+#[tactic(auto, unfolding(spec::specs::Master::cut), using(journal::specs::BackLaws::back_three))]
 fn cut(jr: &mut Journal, m: SoundMaster, r: u32, y: Head, q: Lowered)
     ensures is { jr.new.area.now ≡ cut m jr.old.area.now r y q }
     ensures back { Back jr.old (m.shape.width + 8) jr.new }
@@ -101,14 +104,14 @@ fn promoted(y: Head, next: u32) -> Head
 }
 
 // The secondary in record f comes to the address r with the synonym words z: ahead has r behind it, heads and entry are copied.
-#[tactic(auto, unfolding(spec::specs::Area::mend_synonym_back), using(journal::specs::BackLaws::back_three))]
+#[tactic(auto, using(journal::specs::BackLaws::back_three))]
 fn take_over(jr: &mut Journal, m: SoundMaster, r: u32, f: u32, z: Head)
     ensures is { jr.new.area.now ≡ set_synonyms m.shape (copy_part m.shape (mend_synonym_back m.shape jr.old.area.now z.fore r) f r 5 (m.shape.width - 5)) r z }
     ensures back { Back jr.old (m.shape.width + 2) jr.new }
 {
     let s = m.plain.shape;
-    mend(jr, s, z.fore, 1, r);
-    carry_part(jr, s, f, r, 5, s.width - 5);
+    mend_synonym_back(jr, s, z.fore, r);
+    copy_part(jr, s, f, r, SYNONYM_WORDS, s.width - SYNONYM_WORDS);
     set_synonyms(jr, s, r, z);
 }
 

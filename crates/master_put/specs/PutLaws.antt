@@ -33,13 +33,6 @@ module _ (P : ℕ → Type 0) (m : Master) (full : Refusal) (a entry : List ℕ)
       let h : ℕ = address m (value m.key entry) in
       then_if _ (live m.shape a h) _ _ (then_after _ (synonyms m.shape a h) _ (λ y. held_then h y _ p q)) p
 
-pub held_low :
-    (m : Master) (full : Refusal) (a entry : List ℕ) (h : ℕ) (y : Head) (f : ℕ) (o : Outcome ℕ) (b : Area) →
-    put_out o b ≡ put_held m full a h y f entry → 1 ≤ h → IfOk o (λ r. 1 ≤ r)
-held_low m full a entry h y f (accept r) b e l =
-    then_told (λ (p : Put). 1 ≤ p.at) _ (record { at = r; area = b }) (held_then (λ x. 1 ≤ x) m full a entry h y f l (λ q. q)) (sym e)
-held_low m full a entry h y f (refuse why) b e l = tt
-
 module _ (m : Master) (full : Refusal) (a entry : List ℕ) (t : Put) (e : put_entry m full a entry ≡ accept t) where
   pub put_low : 1 ≤ t.at
   put_low =

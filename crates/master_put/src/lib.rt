@@ -9,13 +9,13 @@ ghost use Rattle.journal.specs.Journal.{Back};
 ghost use Rattle.master_put.specs.Answers.{area_out, put_out, Unwritten};
 
 use area::{
-    blank, carry_part, follow, live, mark_live, mend, poke, put_entry as write_entry, set_synonyms,
-    synonyms,
+    blank, copy_part, follow, go_live, live, mend_synonym_back, mend_synonym_fore, put_entry_at,
+    set_synonym_count, set_synonyms, synonyms,
 };
 use find::{address, named_by, unused_from};
 use journal::Journal;
 use sound::{Entry, SoundMaster};
-use spec::{Head, Refusal, Shape};
+use spec::{Head, Refusal, SYNONYM_WORDS, Shape};
 
 // The words of a new entry in record r, which has no lines: synonym words, heads, entry.
 #[tactic(auto, using(journal::specs::BackLaws::back_three))]
@@ -25,8 +25,8 @@ fn fill(jr: &mut Journal, m: SoundMaster, r: u32, y: Head, entry: &Entry)
 {
     let s = m.plain.shape;
     set_synonyms(jr, s, r, y);
-    blank(jr, s, r, 5, s.front - 5);
-    write_entry(jr, s, r, entry);
+    blank(jr, s, r, SYNONYM_WORDS, s.front - SYNONYM_WORDS);
+    put_entry_at(jr, s, r, entry);
 }
 
 // A new entry in record r, which goes live.
@@ -36,7 +36,7 @@ fn enter(jr: &mut Journal, m: SoundMaster, r: u32, y: Head, entry: &Entry)
     ensures back { Back jr.old (m.shape.front + length entry.now + 1) jr.new }
 {
     fill(jr, m, r, y, entry);
-    mark_live(jr, m.plain.shape, r);
+    go_live(jr, m.plain.shape, r);
 }
 
 // "take it as primary": a new entry in record r, with the synonym words of a primary by itself.
@@ -88,15 +88,15 @@ fn join(
 }
 
 // The chain's end: the one behind leads on to f, and the primary h counts it and has it for its last.
-#[tactic(auto, unfolding(spec::specs::Master::lengthen, spec::specs::Area::mend_synonym_back, spec::specs::Area::mend_synonym_fore, spec::specs::Area::set_synonym_count), using(journal::specs::BackLaws::back_three))]
+#[tactic(auto, unfolding(spec::specs::Master::lengthen), using(journal::specs::BackLaws::back_three))]
 fn lengthen(jr: &mut Journal, s: Shape, h: u32, count: u16, behind: u32, f: u32)
     requires { count ≤ 65000 }
     ensures is { jr.new.area.now ≡ lengthen s jr.old.area.now h count behind f }
     ensures back { Back jr.old 5 jr.new }
 {
-    mend(jr, s, behind, 3, f);
-    poke(jr, s, h, 0, count + 1);
-    mend(jr, s, h, 1, f);
+    mend_synonym_fore(jr, s, behind, f);
+    set_synonym_count(jr, s, h, count + 1);
+    mend_synonym_back(jr, s, h, f);
 }
 
 // The whole of record h in record f, which goes live.
@@ -105,18 +105,18 @@ fn carry(jr: &mut Journal, m: SoundMaster, h: u32, f: u32)
     ensures is { jr.new.area.now ≡ carry m jr.old.area.now h f }
     ensures back { Back jr.old (m.shape.width + 1) jr.new }
 {
-    carry_part(jr, m.plain.shape, h, f, 0, m.plain.shape.width);
-    mark_live(jr, m.plain.shape, f);
+    copy_part(jr, m.plain.shape, h, f, 0, m.plain.shape.width);
+    go_live(jr, m.plain.shape, f);
 }
 
 // The neighbours' links of the one that moves to f, and the move.
-#[tactic(auto, unfolding(spec::specs::Master::relink, spec::specs::Area::mend_synonym_back, spec::specs::Area::mend_synonym_fore), using(journal::specs::BackLaws::back_three))]
+#[tactic(auto, unfolding(spec::specs::Master::relink), using(journal::specs::BackLaws::back_three))]
 fn relink(jr: &mut Journal, m: SoundMaster, h: u32, behind: u32, k: u32, f: u32)
     ensures is { jr.new.area.now ≡ relink m jr.old.area.now h behind k f }
     ensures back { Back jr.old (m.shape.width + 5) jr.new }
 {
-    mend(jr, m.plain.shape, behind, 3, f);
-    mend(jr, m.plain.shape, k, 1, f);
+    mend_synonym_fore(jr, m.plain.shape, behind, f);
+    mend_synonym_back(jr, m.plain.shape, k, f);
     carry(jr, m, h, f);
 }
 
@@ -180,13 +180,13 @@ fn put_held(
 
 // The primary address of an entry's key.
 fn home(m: SoundMaster, entry: &Entry) -> u32
-    ensures { (result ≡ address m (value m.key entry.now)) × (1 ≤ result) }
+    ensures { result ≡ address m (value m.key entry.now) }
 {
     address(m, entry.value(m.plain.key).words)
 }
 
 // Put of an entry whose key is absent.
-#[tactic(auto, unfolding(spec::specs::Master::put_entry), using(spec::specs::Follow::goes, spec::specs::Follow::stops, journal::specs::BackLaws::back_more, journal::specs::BackLaws::back_none, crate::specs::PutLaws::held_low))]
+#[tactic(auto, unfolding(spec::specs::Master::put_entry), using(spec::specs::Follow::goes, spec::specs::Follow::stops, journal::specs::BackLaws::back_more, journal::specs::BackLaws::back_none))]
 pub fn put_entry(
     jr: &mut Journal,
     m: SoundMaster,
@@ -194,7 +194,6 @@ pub fn put_entry(
     entry: &Entry,
 ) -> Result<u32, Refusal>
     ensures is { put_out result jr.new.area.now ≡ put_entry m full jr.old.area.now entry.now }
-    ensures low { IfOk result (λ r. 1 ≤ r) }
     ensures kept { Unwritten result jr.old.area.now jr.new.area.now }
     ensures back { Back jr.old (m.shape.width + m.shape.front + length entry.now + 6) jr.new }
 {

@@ -10,27 +10,25 @@ ghost use Rattle.master_put.specs.Answers.{put_out};
 ghost use Rattle.placing.specs.Answers.{placed_out, looked, end_set, entry_room, path_room};
 
 use area::{
-    follow, freed, live, mark, mend, peek, poke, poke_link, read_head, read_links, read_word,
-    value_at,
+    follow, freed, live, mark, mend_back, mend_fore, next_freed, poke_link, read_head, read_links,
+    read_word, set_head_count, value_at,
 };
 use find::find_key;
 use journal::Journal;
 use master_put::put_entry;
 use sound::{Entry, SoundDetail, SoundPath};
-use spec::{Head, Path, Refusal, Shape, Spot, Taken};
+use spec::{FIRST_AT, Head, LAST_AT, Path, Refusal, Shape, Spot, Taken};
 use words::greater;
 
 // "Put takes the first freed record"
-#[tactic(auto, unfolding(spec::specs::Detail::take_freed, spec::specs::Area::next_freed), using(spec::specs::Follow::goes, spec::specs::Follow::stops))]
+#[tactic(auto, unfolding(spec::specs::Detail::take_freed), using(spec::specs::Follow::goes, spec::specs::Follow::stops))]
 fn take_freed(area: &[u16], s: Shape, high: u16, r: u32) -> Result<Taken, Refusal>
-    requires { 1 ≤ r }
-    ensures is { result ≡ take_freed s area.now high r }
-    ensures low { IfOk result (λ t. 1 ≤ t.at) }
+    ensures { result ≡ take_freed s area.now high r }
 {
     if live(area, s, r) {
         return Err(Refusal::Broken);
     }
-    let freed = read_word(s.cap, peek(area, s, r, 0))?;
+    let freed = read_word(s.cap, next_freed(area, s, r))?;
     Ok(Taken {
         at: r,
         mark: high,
@@ -41,8 +39,7 @@ fn take_freed(area: &[u16], s: Shape, high: u16, r: u32) -> Result<Taken, Refusa
 // "if none, the one above the high-water mark"
 #[tactic(auto, unfolding(spec::specs::Detail::take_above), using(spec::specs::Follow::goes, spec::specs::Follow::stops))]
 fn take_above(area: &[u16], s: Shape, high: u16) -> Result<Taken, Refusal>
-    ensures is { result ≡ take_above s area.now high }
-    ensures low { IfOk result (λ t. 1 ≤ t.at) }
+    ensures { result ≡ take_above s area.now high }
 {
     if s.cap <= high {
         return Err(Refusal::SetFull);
@@ -60,8 +57,7 @@ fn take_above(area: &[u16], s: Shape, high: u16) -> Result<Taken, Refusal>
 
 #[tactic(auto, unfolding(spec::specs::Detail::take_record), using(spec::specs::Follow::goes, spec::specs::Follow::stops))]
 pub fn take_record(area: &[u16], s: Shape) -> Result<Taken, Refusal>
-    ensures is { result ≡ take_record s area.now }
-    ensures low { IfOk result (λ t. 1 ≤ t.at) }
+    ensures { result ≡ take_record s area.now }
 {
     let high = read_word(s.cap, mark(area, s))?;
     let r = read_word(s.cap, freed(area, s))?;
@@ -183,38 +179,45 @@ fn new_ends(jr: &mut Journal, p: SoundPath, k: u32, r: u32, t: Spot)
     ensures is { jr.new.area.now ≡ new_ends p jr.old.area.now k r t }
     ensures back { Back jr.old 4 jr.new }
 {
-    set_end(jr, p.plain.to.shape, k, p.plain.head + 1, t.ahead, r);
-    set_end(jr, p.plain.to.shape, k, p.plain.head + 3, t.behind, r);
+    set_end(jr, p.plain.to.shape, k, p.plain.head + LAST_AT, t.ahead, r);
+    set_end(
+        jr,
+        p.plain.to.shape,
+        k,
+        p.plain.head + FIRST_AT,
+        t.behind,
+        r,
+    );
 }
 
 // The neighbours' links to the new line r.
-#[tactic(auto, unfolding(spec::specs::Detail::link_neighbours, spec::specs::Area::mend_back, spec::specs::Area::mend_fore), using(journal::specs::BackLaws::back_two))]
+#[tactic(auto, unfolding(spec::specs::Detail::link_neighbours), using(journal::specs::BackLaws::back_two))]
 fn neighbours(jr: &mut Journal, d: Shape, p: SoundPath, r: u32, t: Spot)
     ensures is { jr.new.area.now ≡ link_neighbours d p jr.old.area.now r t }
     ensures back { Back jr.old 4 jr.new }
 {
-    mend(jr, d, t.behind, p.plain.links + 2, r);
-    mend(jr, d, t.ahead, p.plain.links, r);
+    mend_fore(jr, d, t.behind, p.plain.links, r);
+    mend_back(jr, d, t.ahead, p.plain.links, r);
 }
 
 // The new line's own links.
-#[tactic(auto, unfolding(spec::specs::Detail::link_own, spec::specs::Area::mend_back, spec::specs::Area::mend_fore), using(journal::specs::BackLaws::back_two))]
+#[tactic(auto, unfolding(spec::specs::Detail::link_own), using(journal::specs::BackLaws::back_two))]
 fn own_links(jr: &mut Journal, d: Shape, p: SoundPath, r: u32, t: Spot)
     ensures is { jr.new.area.now ≡ link_own d p jr.old.area.now r t }
     ensures back { Back jr.old 4 jr.new }
 {
-    mend(jr, d, r, p.plain.links, t.behind);
-    mend(jr, d, r, p.plain.links + 2, t.ahead);
+    mend_back(jr, d, r, p.plain.links, t.behind);
+    mend_fore(jr, d, r, p.plain.links, t.ahead);
 }
 
 // The head of the chain in record k: its count raised, and its ends. (It was read whole, so it can be raised: see `master_put`.)
-#[tactic(auto, unfolding(spec::specs::Area::set_head_count), using(journal::specs::BackLaws::back_two))]
+#[tactic(auto, using(journal::specs::BackLaws::back_two))]
 fn raise_head(jr: &mut Journal, p: SoundPath, k: u32, count: u16, r: u32, t: Spot)
     requires { count ≤ 65000 }
     ensures is { jr.new.area.now ≡ new_ends p (set_head_count p.to.shape jr.old.area.now k p.head (count + 1)) k r t }
     ensures back { Back jr.old 5 jr.new }
 {
-    poke(jr, p.plain.to.shape, k, p.plain.head, count + 1);
+    set_head_count(jr, p.plain.to.shape, k, p.plain.head, count + 1);
     new_ends(jr, p, k, r, t);
 }
 

@@ -21,7 +21,7 @@ use named::{Named, current_record, name_cursor, name_set};
 use root::Plan;
 use session::{Good, Session};
 use sound::SoundMaster;
-use spec::{Cursor, Links, Refusal, Shape};
+use spec::{Cursor, LINE_WORDS, Links, Refusal, Shape};
 
 // What a get mode reads: a record by its number, the line ahead or behind on the current path, an entry by its key.
 #[derive(Clone, Copy)]
@@ -333,7 +333,7 @@ fn links_on(area: &[u16], d: Shape, path: u32, r: u32) -> Result<Links, Refusal>
     if path == 0 {
         return Ok(Links::default());
     }
-    read_links(area, d, r, 4 * (path as u16 - 1))
+    read_links(area, d, r, LINE_WORDS * (path as u16 - 1))
 }
 
 // What a get tells of record r beside the entry, read whole.

@@ -8,6 +8,7 @@ ghost use Rattle.root.specs.Inside.{counts_inside, item_inside, set_inside};
 ghost use Rattle.spec.specs.Root.{items, sets, item_type, item_length, description, kind, capacity, item_count, key_item, path_count, set_item, path_master, path_search, path_sort, search_path, root_length};
 
 pub use codes::{ItemType, Kind, UnknownCode};
+use spec::SET_WORDS;
 use std::alloc::Allocator;
 
 // The words of a root, and which of them may be asked for.
@@ -15,7 +16,7 @@ pub trait Readable: Drop {
     ghost words: { Self → List ℕ };
 
     // The places that may be read, the items and sets that may be asked for, and the places within a set's 33 words. (Each reader
-    // asks it of its number: a number and its root as one value would be made anew at each reading, which is no plainer.)
+    // asks it of its number: item and place come anew at each reading; a set's number goes with its root in the types above this crate.)
     ghost has_word: { Self → ℕ → Type 0 };
 
     ghost has_item: { Self → ℕ → Type 0 };
@@ -66,7 +67,9 @@ impl<'a> Readable for &'a [u16] {
     }
 }
 
-// The same of words that are lent to be written, of a list and of an array.
+// The same of words that are lent to be written, of a list and of an array. (Where any words are taken a caller reached `&[u16]` from
+// these by a coercion, which a generic function doesn't make, and they are promised to be taken. The members are the same four times: a
+// trait's law can have no default that rests on a member's.)
 impl<'a> Readable for &'a mut [u16] {
     ghost words = { λ r. r.now };
 
@@ -276,7 +279,7 @@ pub fn description<R: Readable>(root: R, s: u16) -> usize
     ensures upper_bound { result < 4294967296 }
 {
     let n = items(root);
-    2 + 2 * (n as usize) + 33 * ((s as usize) - 1)
+    2 + 2 * (n as usize) + SET_WORDS * ((s as usize) - 1)
 }
 
 // "kind (1 manual master, 2 automatic master, 3 detail)"
@@ -365,7 +368,7 @@ pub fn path_sort<R: Readable>(root: R, s: u16, p: u16) -> u16
 // What is counted from a root once, in a room that a call makes and lends. For set s, at s - 1: the paths leading to it, the words of
 // its entry, and its start in the area. For path p of set s, at 4 (s - 1) + p - 1: the number of its head among those of its master.
 // (Four arrays: a set's paths are counted while other sets are judged, and its start when all are, so an array of records would be
-// filled a field at a time.)
+// filled a field at a time. The paths' is flat, as the list that `Slots` speaks of.)
 #[derive(Clone, Copy)]
 pub struct Plan {
     pub leads: [u16; 16],

@@ -12,6 +12,7 @@ ghost use Rattle.root.specs.Plan.{Leads, Slots, Entries};
 
 use root::{ItemType, Plan, Stated};
 use sets::Head;
+use spec::{MAX_ITEMS, MAX_SETS, SET_WORDS};
 
 // The most words of an item by its type, "I and K: 1 or 2; X: 1..32"; 0 where there is no such type, and no Option: a limit in
 // each case lets several items be looked at at once, and tests in each case cost an eighth more on a large root.
@@ -57,8 +58,8 @@ fn framed(words: &[u16]) -> Option<Stated>
 {
     let i = root::items(words);
     let n = root::sets(words);
-    let whole = 2 + 2 * (i as usize) + 33 * (n as usize);
-    if 1 <= i && i <= 64 && 1 <= n && n <= 16 && words.len() == whole {
+    let whole = 2 + 2 * (i as usize) + SET_WORDS * (n as usize);
+    if 1 <= i && i <= MAX_ITEMS && 1 <= n && n <= MAX_SETS && words.len() == whole {
         Some(Stated { words })
     } else {
         None

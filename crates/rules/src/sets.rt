@@ -9,6 +9,7 @@ ghost use Rattle.rules.specs.Rules.{unused, items_good, set_judged, Holds, Holds
 
 use crate::items::ItemSet;
 use root::{ItemType, Kind, Plan, Stated};
+use spec::{MAX_CAPACITY, MAX_PATHS, MAX_SET_ITEMS};
 
 // A root with its counts in their limits and its length as they say, whose items keep their rules.
 #[derive(Clone, Copy)]
@@ -75,8 +76,8 @@ fn blank(root: Stated, at: usize, n: usize) -> bool
     }
 }
 
-// (The stages of a root's judging are types: `Head`, `Set`, `GoodSet`. What is known within a loop, of the items and paths seen so far,
-// is told by clauses: a type of it would be made anew at each turn.)
+// (The stages of a root's judging are types: `Head`, `Set`, `GoodSet`. What is known of the items and paths seen so far is told by
+// clauses: a type of it would be made anew at each turn.)
 impl<'a> Set<'a> {
     // "a set's items exist and differ": the j-th, if it does, beside those before it.
     #[tactic(auto, using(std::proofs::lemmas::Bool::Decides::nat_tests), unfolding(spec::specs::Root::item_listed, crate::specs::Rules::Holds))]
@@ -116,12 +117,12 @@ impl<'a> Set<'a> {
         ensures length_value { IfSome result (λ l. l.length ≡ entry_length self.now.root.words.now self.now.number) }
     {
         let n = root::item_count(self.root, self.number);
-        if n < 1 || 16 < n {
+        if n < 1 || MAX_SET_ITEMS < n {
             return None;
         }
         let list = self.first_items(n)?;
         let at = root::description(self.root, self.number) + 4 + (n as usize);
-        blank(self.root, at, 16 - (n as usize)).then_some(list)
+        blank(self.root, at, (MAX_SET_ITEMS - n) as usize).then_some(list)
     }
 
     // "key item number (0 for a detail); path count 0..4 (0 for a master)", "a master's key is among them"
@@ -133,7 +134,7 @@ impl<'a> Set<'a> {
         let key = root::key_item(self.root, self.number);
         let n = root::path_count(self.root, self.number);
         match Kind::try_from(root::kind(self.root, self.number)) {
-            Ok(Kind::Detail) => key == 0 && n <= 4,
+            Ok(Kind::Detail) => key == 0 && n <= MAX_PATHS,
             Ok(_) => n == 0 && items.has_number(key),
             Err(_) => false,
         }
@@ -146,7 +147,7 @@ impl<'a> Set<'a> {
         ensures same { IfSome result (λ s. s.set ≡ self.now) }
     {
         let capacity = root::capacity(self.root, self.number);
-        if capacity < 1 || 4095 < capacity {
+        if capacity < 1 || MAX_CAPACITY < capacity {
             return None;
         }
         let Listed { items, length } = self.items_good()?;
@@ -227,7 +228,7 @@ fn sortable(root: Stated, i: u16) -> bool
     )
 }
 
-// (A path goes by its number, at most 4: a value of number and set would have the clauses name the root through three structs.)
+// (A path goes by its number, at most 4: of a set that is still judged a path may be no good one, so a type of it would say no more.)
 impl<'a> GoodSet<'a> {
     // "its items are among its own set's items", "a sort item is K or X and isn't that path's search item" (0: none)
     #[tactic(auto, using(std::proofs::lemmas::Bool::Decides::nat_tests, crate::proofs::Paths::exists), unfolding(spec::specs::Root::sort_good, crate::specs::Rules::Holds))]

@@ -1,5 +1,6 @@
 // What the steps of a call are handed, sound as a good root has them: a master, a detail, a path of it, or its places alone, an entry,
-// and a place in the area.
+// and a place in the area. (Four of them hold a plain value alone: each has its own invariant, and a type generic over it would need a
+// trait to name it.)
 #![tactic(auto)]
 
 ghost use Rattle.std.specs.Prelude.{◌≡◌, ◌+◌, ◌≤◌, ◌<◌, ◌^◌, ℕ, List, length};

@@ -103,6 +103,7 @@ shape_of root s =
     let front : ℕ = front_words root s in
     let entry : ℕ = entry_length root s in
     record {
+      set = s;
       start = start;
       map = start + lead_words;
       records = start + lead_words + map_words (capacity root s);

@@ -6,6 +6,43 @@ ghost use Rattle.std.specs.Prelude.{◌≡◌};
 ghost use Rattle.spec.specs.Outcome.{number};
 ghost use Rattle.spec.specs.Cursor.{fresh, at_chain, at_record};
 
+// The layout's widths and places, and the root's limits, each named once, as specs/Layout.antt and specs/Root.antt name them.
+
+// "two words (high-water mark and first freed record ..)", before the map
+pub const LEAD_WORDS: u16 = 2;
+
+// A line's pair of links: where the link on stands behind the link back.
+pub const LINE_WORDS: u16 = 4;
+
+pub const FORE_AT: u16 = 2;
+
+// A chain head: "count, last, first"
+pub const HEAD_WORDS: u16 = 5;
+
+pub const LAST_AT: u16 = 1;
+
+pub const FIRST_AT: u16 = 3;
+
+// "five synonym words": a count, the link back, the link on
+pub const SYNONYM_WORDS: u16 = 5;
+
+pub const SYNONYM_BACK_AT: u16 = 1;
+
+pub const SYNONYM_FORE_AT: u16 = 3;
+
+// "items, 1..64", "sets, 1..16", "33 words per set", "capacity 1..4,095", "item count 1..16", "path count 0..4"
+pub const MAX_ITEMS: u16 = 64;
+
+pub const MAX_SETS: u16 = 16;
+
+pub const SET_WORDS: usize = 33;
+
+pub const MAX_CAPACITY: u16 = 4095;
+
+pub const MAX_SET_ITEMS: u16 = 16;
+
+pub const MAX_PATHS: u16 = 4;
+
 // Why a call is refused, one case for each row of document 01's table "Condition words". `number` in specs/Outcome.antt
 // gives each its number; a path's number goes with the two that tell it.
 #[derive(Clone, Copy)]
@@ -78,10 +115,11 @@ pub struct Field {
     pub size: u16,
 }
 
-// Where a set stands: its first word, the first word of its map and of its records, how many records it has, the words of
+// Where a set stands: its number, its first word, the first word of its map and of its records, how many records it has, the words of
 // a record, those of them before the entry, and the words of the entry.
 #[derive(Clone, Copy)]
 pub struct Shape {
+    pub set: u16,
     pub start: u32,
     pub map: u32,
     pub records: u32,
@@ -91,7 +129,8 @@ pub struct Shape {
     pub entry: u16,
 }
 
-// A master set: whether it is automatic, whether its key is of type X, its key, and how many paths lead to it.
+// A master set: whether it is automatic, whether its key is of type X, its key, and how many paths lead to it. (Two truths, and no
+// kind and type: the definitions ask just these.)
 #[derive(Clone, Copy)]
 pub struct Master {
     pub shape: Shape,

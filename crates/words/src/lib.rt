@@ -83,7 +83,8 @@ pub fn lay(a: &mut [u16], at: usize, vs: &[u16])
     a[start..start + n].copy_from_slice(&vs[..n]);
 }
 
-// The n words from a place on become 0, as far as there are any.
+// The n words from a place on become 0, as far as there are any. (It begins as `lay` does: a function that gives the part lent to be
+// written would have to say what the whole then is.)
 #[tactic(auto, using(crate::proofs::Laws::laid_zeros))]
 pub fn lay_zeros(a: &mut [u16], at: usize, n: usize)
     ensures { a.new ≡ sets a.old at (replicate n 0) }
