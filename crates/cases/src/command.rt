@@ -1,4 +1,6 @@
 // What a line of the script asks for: its first word, and the numbers after it.
+ghost use Rattle.std.specs.Prelude.{◌≡◌, ◌++◌, IfOk, OnOk};
+
 use lines::{is_word, number_of};
 use std::alloc::{AllocError, AllocFailed, Global};
 use std::io;
@@ -111,7 +113,9 @@ pub fn command_of(line: &[u8], numbers: &mut Vec<u32>) -> Result<Option<Verb>, F
 }
 
 // Numbers that are words, after those that are there.
-pub fn lay(numbers: &[u32], words: &mut Vec<u16>) -> Result<(), Failed> {
+pub fn lay(numbers: &[u32], words: &mut Vec<u16>) -> Result<(), Failed>
+    ensures { OnOk result (words.new.items ≡ words.old.items ++ numbers.now) }
+{
     for n in numbers {
         if words.len() == ROOM {
             return Err(Failed::Unreadable);
@@ -122,13 +126,17 @@ pub fn lay(numbers: &[u32], words: &mut Vec<u16>) -> Result<(), Failed> {
 }
 
 // Numbers that are words, in place of those that are there.
-pub fn lay_anew(numbers: &[u32], words: &mut Vec<u16>) -> Result<(), Failed> {
+pub fn lay_anew(numbers: &[u32], words: &mut Vec<u16>) -> Result<(), Failed>
+    ensures { OnOk result (words.new.items ≡ numbers.now) }
+{
     words.clear();
     lay(numbers, words)
 }
 
 // Numbers as the words that a call is lent, in a room for them.
-pub fn words_of<'a>(numbers: &[u32], room: &'a mut Vec<u16>) -> Result<&'a [u16], Failed> {
+pub fn words_of<'a>(numbers: &[u32], room: &'a mut Vec<u16>) -> Result<&'a [u16], Failed>
+    ensures { IfOk result (λ words. words.now ≡ numbers.now) }
+{
     lay_anew(numbers, room)?;
     Ok(room.as_slice())
 }

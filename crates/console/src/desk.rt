@@ -1,4 +1,7 @@
 // What lies before the person: a root and an area, the cursors, and the last call's status; and the rooms that commands work in.
+ghost use Rattle.std.specs.Prelude.{◌≡◌, IfOk, IfErr, get_or, vec_len};
+ghost use Rattle.spec.specs.Words.{long};
+
 use screen::Refused;
 use session::Session;
 use std::alloc::{AllocError, Global};
@@ -12,7 +15,10 @@ pub struct Status(pub [u16; 10]);
 
 impl Status {
     // The status of an accepted call; of any other the refusal.
-    pub fn accepted(self) -> Result<Status, Refused> {
+    pub fn accepted(self) -> Result<Status, Refused>
+        ensures ok { IfOk result (λ status. (status ≡ self) × (get_or self.0 0 0 ≡ 0)) }
+        ensures err { IfErr result (λ why. (why.0 ≡ get_or self.0 0 0) × (why.0 ≡ 0 → ⊥)) }
+    {
         match word(&self.0, 0) {
             0 => Ok(self),
             condition => Err(Refused(condition)),
@@ -20,25 +26,35 @@ impl Status {
     }
 
     // The words of the entry.
-    pub fn size(&self) -> u16 {
+    pub fn size(&self) -> u16
+        ensures { result ≡ get_or self.now.0 1 0 }
+    {
         word(&self.0, 1)
     }
 
-    pub fn record(&self) -> u32 {
+    pub fn record(&self) -> u32
+        ensures { result ≡ long self.now.0 2 }
+    {
         long_at(&self.0, 2)
     }
 
     // The lines of a chain, or the synonyms of an entry.
-    pub fn number(&self) -> u32 {
+    pub fn number(&self) -> u32
+        ensures { result ≡ long self.now.0 4 }
+    {
         long_at(&self.0, 4)
     }
 
     // The saved links.
-    pub fn back(&self) -> u32 {
+    pub fn back(&self) -> u32
+        ensures { result ≡ long self.now.0 6 }
+    {
         long_at(&self.0, 6)
     }
 
-    pub fn fore(&self) -> u32 {
+    pub fn fore(&self) -> u32
+        ensures { result ≡ long self.now.0 8 }
+    {
         long_at(&self.0, 8)
     }
 }
