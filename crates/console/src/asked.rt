@@ -14,7 +14,7 @@ pub struct Chain {
     pub item: u16,
 }
 
-// What a get names: a set, a mode by its number, as the C interface has it, and for mode 4 a record.
+// What a get names: a set, a mode by its number, as the engine's get takes it, and for mode 4 a record.
 #[derive(Clone, Copy, Debug)]
 pub struct Get {
     pub set: u16,

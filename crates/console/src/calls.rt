@@ -22,7 +22,7 @@ impl fmt::Display for Lines {
     }
 }
 
-// A mode is a number, as the C interface has it: 5 forward along a chain, 6 back.
+// A mode is a number, as the engine's get takes it: 5 forward along a chain, 6 back.
 pub const FORWARD: u16 = 5;
 
 pub const BACKWARD: u16 = 6;
@@ -101,7 +101,7 @@ impl Desk {
                 say_read(writer, &self.root, set, status, &entry)?;
                 Ok(Some(answer.session))
             }
-            // The chain's two ends, as numbers: so the C interface's status word has them.
+            // The chain's two ends, as numbers: a status word is one.
             Err(Refused(14 | 15)) => Ok(None),
             Err(refused) => {
                 writeln!(writer, " {refused}")?;

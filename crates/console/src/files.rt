@@ -158,6 +158,7 @@ impl Desk {
         name: &'a [u8],
     ) -> Result<(), Failed<'a>> {
         let mut file = open_read(rt, name).ok_or(Failed::File(name, Fault::NotOpened))?;
+        // The room keeps its length, to be filled by the next read; what is wrong with a word is told here, since the desk lends it.
         let n = read_full(&mut file, &mut self.rooms.text);
         if let Err(failed) = numbers(&self.rooms.text[..n], &mut self.rooms.words) {
             failed.tell(writer)?;

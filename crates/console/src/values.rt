@@ -36,7 +36,7 @@ fn number(text: &[u8], item: Item) -> Option<u32> {
     }
 }
 
-// (Each says by how much the words grow: no type of a Vec can.)
+// (Each says by how much the words grow, as `take_value` promises: no type of a Vec can.)
 fn take_number<'a>(item: Item, rest: &mut Rest<'a>, out: &mut Vec<u16>) -> Result<(), Failed<'a>>
     ensures { OnOk result (vec_len out.new ≤ vec_len out.old + 2) }
 {

@@ -1,6 +1,5 @@
 // Put, update and delete on a detail set with its cursor, up to their outcome. Where the outcome is a refusal, the area is as it
-// was. (Area, cursor and entry are what the definitions
-// take.)
+// was. (Area, cursor and entry are what the definitions take.)
 #![tactic(auto)]
 
 ghost use Rattle.std.specs.Prelude.{◌≡◌, [], IfErr, ◌≤◌, ◌&&◌};

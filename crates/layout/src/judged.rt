@@ -22,7 +22,8 @@ struct Judged<'a> {
     ghost counted: { Counted root.words.now plan.now } by { Prim.hlevel props },
 }
 
-// A set of a root that keeps its rules, by its number: what its words say. (The one of `rules` is of a root that is still judged.)
+// A set of a root that keeps its rules, by its number: what its words say. (The one of `rules` is of a root
+// that is still judged; `Set` has its root's plan, of which there is none yet here.)
 #[derive(Clone, Copy)]
 pub struct RuledSet<'a> {
     pub root: Stated<'a>,
@@ -90,7 +91,7 @@ impl<'a> Judged<'a> {
         u32::from(LEAD_WORDS) + map_words(cap) + cap * width as u32
     }
 
-    // "Sets follow one another.": the start of each.
+    // "Sets follow one another.": the start of each. (By the place: the sum that is stored goes on from set to set.)
     #[tactic(auto, unfolding(root::specs::Plan::Starts), using(crate::proofs::Good::good_root, crate::proofs::Starts::start_first, crate::proofs::Starts::start_more))]
     fn starts(&self) -> [u32; 16]
         ensures { Starts self.now.root.words.now result }

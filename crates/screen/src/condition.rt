@@ -1,8 +1,7 @@
 // Each condition word's meaning in a sentence, from document 01's table.
 use std::fmt;
 
-// A call that was refused, by the condition word of its status: a number, as the C interface has it. (No number is turned back
-// into a `Refusal`.)
+// A call that was refused, by the condition word of its status: a number, since a call's answer has ten words and no `Refusal`.
 #[derive(Clone, Copy, Debug, PartialEq, Eq, Hash)]
 pub struct Refused(pub u16);
 

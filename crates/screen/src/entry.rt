@@ -56,7 +56,7 @@ impl<'a> ListedSet<'a> {
         Item::new(self.root, root::set_item(self.root, self.number, j))
     }
 
-    // An entry of it, its items one after another. No Display: set and entry would need a struct for it.
+    // An entry of it, its items one after another. No Display: its texts are written as bytes.
     pub fn say_entry<W: Write>(&self, writer: &mut W, entry: &[u16]) -> io::Result<()> {
         let mut rest = entry;
         for j in 1..=root::item_count(self.root, self.number) {
@@ -86,7 +86,7 @@ fn trimmed(text: &[u8]) -> &[u8] {
     &text[..text.len() - blanks]
 }
 
-// An X item's words as its characters; the longest has 32 words. No Display: words are no type of their own.
+// An X item's words as its characters; the longest has 32 words. No Display: they are written as bytes.
 fn say_text<W: Write>(writer: &mut W, words: &[u16]) -> io::Result<()> {
     if 32 < words.len() {
         return Ok(());
@@ -102,7 +102,7 @@ fn say_text<W: Write>(writer: &mut W, words: &[u16]) -> io::Result<()> {
     writer.write_all(b"\"")
 }
 
-// An item's words, by its type; a number has one word or two. No Display: kind and words would need a struct.
+// An item's words, by its type; a number has one word or two. No Display: a text is written as bytes.
 fn say_value<W: Write>(writer: &mut W, kind: ItemType, words: &[u16]) -> io::Result<()> {
     match (kind, words) {
         (ItemType::Text, _) => say_text(writer, words),

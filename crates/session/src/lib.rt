@@ -57,7 +57,7 @@ impl Session {
         self.cursors.get(own).copied().unwrap_or(Cursor::new())
     }
 
-    // A set's cursor is replaced; none past the sixteenth.
+    // A set's cursor is replaced; none past the sixteenth. (By the place, as in `words::put_word`.)
     fn with_cursor(mut self, set: u16, c: Cursor) -> Session
         ensures { result.cursors ≡ set_at self.cursors (set - 1) c }
     {
